@@ -1,5 +1,5 @@
 -- The order of faults.
-use Rattle.std.proofs.Common.{◌≡◌, ◌≢◌, sym, ℕ, ◌<◌, ◌≤◌, List, [], ap, refl, arith, Ordering, Less, Equal, Greater}
+use Rattle.std.proofs.Common.{◌≡◌, ◌≢◌, sym, ℕ, ◌<◌, ◌≤◌, List, [], ap, refl, arith, Ordering, Less, Equal, Greater, subst, inr}
 use Rattle.std.specs.Cmp.{IsTotalOrder, nat_cmp_is}
 use Rattle.std.specs.Cmp.Lexicographic.{slice_cmp}
 use Rattle.std.specs.Ordering.{nat_cmp, ordering_reverse, ordering_then}
@@ -66,7 +66,9 @@ pub later_spot : (pass : ℕ) (f g : List ℕ) (s : ℕ) (x y : Spot) → slice_
 later_spot pass f g s x y name most = grind (arith, then_not, itself, spots)
 
 pub same_later : (x y : SourceFault) → x ≡ y → IsNoLater x y
-same_later x y e = grind (arith, same_name, later_spot)
+same_later x y e =
+    let here = spot x.place x.kind in
+    subst (IsNoLater x) e (later_spot x.pass x.file x.file x.step here here (same_name x.file) (inr (refl, omega arith)))
 
 -- ---- two of which neither comes later are one
 

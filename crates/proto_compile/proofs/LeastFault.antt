@@ -6,6 +6,7 @@ use Rattle.std.proofs.lemmas.Bool.{cases_lt, cases_order}
 use Rattle.std.proofs.lemmas.List.{length-map}
 use Rattle.std.proofs.lemmas.List.Sorted.{Contains-permutation, IsPermutation-sym}
 use Rattle.share_work.specs.Shares.{GivesItems}
+use Rattle.proto_base.specs.FileFaults.{at_step}
 use Rattle.proto_base.specs.Least.{IsLeastBy, spot}
 use Rattle.proto_base.specs.NameOrder.{NamesRise}
 use Rattle.proto_base.specs.Limits.{limit_of}
@@ -54,7 +55,7 @@ later_file : (pass : ℕ) (descs : List FileDesc) (a b : ℕ) (p q : Place) (k l
     → NamesRise (map imports.name_of descs) → b < length descs → bad_imports.IsNoLater (a, spot p k) (b, spot q l)
     → IsNoLater (of_file pass (imports.name_at descs a) p k) (of_file pass (imports.name_at descs b) q l)
 later_file pass descs a b p q k l rise h (inl less) =
-    later_name pass (imports.name_at descs a) (imports.name_at descs b) _ _
+    later_name pass (imports.name_at descs a) (imports.name_at descs b) (at_step 0 (spot p k)) (at_step 0 (spot q l))
     (rise_far (map imports.name_of descs) rise a b less (omega (arith, h, length-map descs imports.name_of)))
 later_file pass descs a b p q k l rise h (inr (same, most)) =
     let name = imports.name_at descs a in
@@ -91,7 +92,8 @@ module _ (limits : Limits) (sources : List Source) where
       own : (y : SourceFault) → Breaks limits sources y → y.pass ≡ 0 → IsNoLater (of_list 0 kind.TooManyFiles) y
       own _ (many_files over) same = same_later (of_list 0 kind.TooManyFiles) (of_list 0 kind.TooManyFiles) refl
       own _ (repeated_file_name i j less below twice) same =
-          later_spot 0 [] (name_at sources i) 0 _ _ (no_name_first (name_at sources i)) (inr (refl, omega arith))
+          later_spot 0 [] (name_at sources i) 0 (spot start kind.TooManyFiles) (spot start kind.FileNameTwice)
+          (no_name_first (name_at sources i)) (inr (refl, omega arith))
       own y breaks same = absurd (omega (arith, same))
 
   pub repeated_least : (files : List Source) (k : ℕ) → length sources ≤ limit_of limits limit.Files
@@ -113,7 +115,9 @@ module _ (limits : Limits) (sources : List Source) where
           let (b, inside, name, next) =
           neighbours sources files (name_at sources i) sorted (two_at sources i j less below twice) in
           let most : k ≤ b = elim (cases_lt b k) [ inl over ↦ absurd (first.first b over next) | inr most ↦ most ] in
-          rw (← name) (later_spot 0 (name_at files k) (name_at files b) 0 _ _ (up_in_order sources files k b sorted most (omega (arith, inside))) (inr (
+          rw (← name) (later_spot 0 (name_at files k) (name_at files b) 0 (spot start kind.FileNameTwice)
+          (spot start kind.FileNameTwice)
+          (up_in_order sources files k b sorted most (omega (arith, inside))) (inr (
             refl,
             omega
                 arith,
@@ -199,7 +203,8 @@ module _ (limits : Limits) (sources : List Source) where
       own _ (many_names others described more) same = same_later (of_list 3 kind.TooManyNames) _ refl
       own _ (repeated_name others o described twice) same =
           let here = contains_second (occurrences others) twice.0 o twice.1 in
-          later_spot 3 [] (imports.name_at others o.file) 0 _ _ (no_name_first (imports.name_at others o.file))
+          later_spot 3 [] (imports.name_at others o.file) 0 (spot start kind.TooManyNames)
+          (spot o.place kind.NameTwice) (no_name_first (imports.name_at others o.file))
           (inl (names_after limits described.files others o described.each here))
       own y breaks same = absurd (omega (arith, same))
 

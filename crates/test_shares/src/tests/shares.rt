@@ -4,7 +4,9 @@ ghost use Rattle.std.specs.Prelude.{⊤, ◌≡◌, ◌<◌, All, length};
 
 use super::least_tables::closed;
 use share_samples::posting::{Posting, join_seats, two_seats};
-use share_work::{Gate, LeastSeat, LeastTable, NoGate, Plan, Work, in_shares};
+use share_work::{
+    Gate, ItemWork, LeastSeat, LeastTable, NoGate, Plan, Work, each_in_shares, in_shares,
+};
 use std::alloc::{AllocError, AllocGlobal, Global};
 use std::process::Abort;
 use std::sync::atomic::{AtomicU64, Ordering};
@@ -134,6 +136,33 @@ fn outs_in_order(rt: HostRuntime) {
         let entered = gate.count.load(Ordering::SeqCst);
         assert!(rt; entered == *pieces, "{workers} workers, cut {cut}");
     }
+}
+
+/// Puts an item's position before its last digit.
+#[derive(Drop)]
+struct Positioned;
+
+impl ItemWork<u32> for Positioned {
+    type Out = u64;
+
+    ghost takes = { λ _ _ _. ⊤ };
+
+    ghost gives = { λ _ _ _ _. ⊤ };
+
+    fn item(&self, _alloc: Global, position: usize, item: &u32) -> Result<u64, AllocError> {
+        Ok((position as u64).wrapping_mul(10) | u64::from(*item))
+    }
+}
+
+/// Each item is worked on at its own position, and each piece enters the gate once.
+#[test]
+fn items_at_their_positions(rt: HostRuntime) {
+    let gate = Entries::new();
+    let plan = Plan::new(3, 2).expect(&rt, "a plan");
+    let outs = each_in_shares(&rt, plan, 4, &gate, &[1, 1, 0, 1, 0, 1, 1], &Positioned);
+    let wanted = [1, 11, 20, 31, 40, 51, 61];
+    assert!(rt; outs.expect(&rt, "memory").as_slice() == wanted.as_slice());
+    assert!(rt; gate.count.load(Ordering::SeqCst) == 4);
 }
 
 /// Eleven items in pieces of two, for three workers: pieces 0 and 3, 1 and 4, 2 and 5.
