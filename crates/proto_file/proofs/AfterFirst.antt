@@ -1,12 +1,12 @@
 -- No place of a descriptor is the start of its text: the keyword of the syntax statement stands there, or behind it.
-use Rattle.std.proofs.Common.{◌≡◌, ◌∙◌, sym, ℕ, ◌+◌, ◌<◌, List, [], ◌∷◌, subst, arith, None, Some}
+use Rattle.std.proofs.Common.{◌≡◌, ◌∙◌, sym, ℕ, ◌+◌, ◌<◌, List, [], ◌∷◌, subst, arith}
 use Rattle.proto_base.specs.declared.limits.Limits.{Limits}
 use Rattle.proto_desc.specs.Places.{places_of}
 use Rattle.proto_desc.specs.declared.file.FileDesc.{FileDesc}
 use Rattle.proto_syntax.specs.Grammar.{flatten}
 use Rattle.proto_syntax.specs.Trees.{file_tree, row, statement_tree, syntax_tree}
 use Rattle.proto_tokens.proofs.CutLemmas.{piece_nonempty}
-use Rattle.proto_tokens.specs.Spelling.{Piece, IsCutIntoPieces, mark_len, with_token, tokens_from}
+use Rattle.proto_tokens.specs.Spelling.{Piece, IsCutIntoPieces, mark_len, tokens_from}
 use Rattle.proto_tokens.specs.Token.{Spelled}
 use Rattle.proto_file.specs.Local.{Describes}
 use Rattle.proto_file.proofs.LocalPlaces.{pieces_in}
@@ -23,12 +23,12 @@ rest_after : (s : List ℕ) (from : ℕ) (ps : List Piece) (to : ℕ) → IsCutI
     → BeginWithin IsAfter (rest_of (tokens_from from ps))
 rest_after s from [] to cut = tt
 rest_after s from (p ∷ ps) to cut =
-    let some : 0 < p.len = piece_nonempty _ p.len p.is cut.0 in
-    elim p.is as
-    (λ is. BeginWithin IsAfter (rest_of (with_token is from (from + p.len) (tokens_from (from + p.len) ps)))) [
-      | None ↦ rest_after s (from + p.len) ps to cut.1
-      | Some lexeme ↦ pieces_in IsAfter s (from + p.len) ps to (λ k low high. omega (arith, some, low)) cut.1
-    ]
+    grind (
+      arith,
+      piece_nonempty _ p.len p.is cut.0,
+      rest_after s (from + p.len) ps to cut.1,
+      pieces_in IsAfter s (from + p.len) ps to (λ k low high. omega (arith, piece_nonempty _ p.len p.is cut.0, low)) cut.1,
+    )
 
 pub places_after : (limits : Limits) (name text : List ℕ) (desc : FileDesc) → Describes limits name text desc
     → AreIn IsAfter (places_of desc)

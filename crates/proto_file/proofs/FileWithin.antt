@@ -1,9 +1,9 @@
 -- The spots of a file's broken rules lie within a text in which the tokens of its tree begin.
-use Rattle.std.proofs.Common.{sym, subst, ℕ, List, ◌++◌, map, inl, inr}
+use Rattle.std.proofs.Common.{arith, sym, subst, ℕ, List, ◌++◌, map, inl, inr}
 use Rattle.std.specs.Prelude.{flat_map}
 use Rattle.std.specs.List.{AllByRecursion}
 use Rattle.proto_base.specs.declared.limits.Limits.{Limits}
-use Rattle.proto_syntax.specs.Trees.{enum_tree, message_item_tree, message_tree, service_tree, package_tree, statement_tree, file_tree, setting_tree}
+use Rattle.proto_syntax.specs.Trees.{enum_tree, message_item_tree, message_tree, service_tree, package_tree, statement_tree, file_tree}
 use Rattle.proto_tree.specs.declared.file.FileTree.{FileTree}
 use Rattle.proto_tree.specs.declared.file.Package.{Package}
 use Rattle.proto_tree.specs.declared.file.Statement.{Statement}
@@ -13,6 +13,7 @@ use Rattle.proto_syntax.proofs.Items.{item_message}
 use Rattle.proto_desc.specs.DeclaredNames.{Declared, scoped, declared_field, declared_oneof, declared_value, declared_by_enum, declared_by_message, declared_method, declared_by_service, file_scope, declared_by}
 use Rattle.proto_lower.specs.Files.{lowered}
 use Rattle.proto_options.specs.Options.{file_setting}
+use Rattle.proto_options.specs.Statements.{file_message, file_enum, file_service, file_package}
 use Rattle.proto_desc.specs.Places.{field_places, oneof_place, value_place, enum_places, message_places, method_places, service_places, package_places, import_place, places_of}
 use Rattle.proto_desc.specs.declared.enumeration.EnumDesc.{EnumDesc}
 use Rattle.proto_desc.specs.declared.field.FieldDesc.{FieldDesc}
@@ -22,7 +23,7 @@ use Rattle.proto_desc.specs.declared.oneof.OneofDesc.{OneofDesc}
 use Rattle.proto_desc.specs.declared.service.MethodDesc.{MethodDesc}
 use Rattle.proto_desc.specs.declared.service.ServiceDesc.{ServiceDesc}
 use Rattle.proto_file.specs.Places.{AllWithin}
-use Rattle.proto_file.proofs.PlacesWithin.{Within, rest, both, each_given, each_map, each_place, each_places, each_weaker, upto, EnumWithin, places_out, lowered_within, EachIn, Gives, by_items, by_nested, each_held, each_part, every, file_enums, file_messages, file_packages, file_services, listed, split, IsOther}
+use Rattle.proto_file.proofs.PlacesWithin.{Within, rest, both, each_given, each_map, each_place, each_places, each_weaker, upto, EnumWithin, places_out, lowered_within, EachIn, by_items, by_nested, each_held, each_part, every, listed, split, IsOther}
 use Rattle.proto_checks.specs.Checks.{FileBreaks, HeadBreaks, ElementsBreak, NamesBreak, LengthsBreak, import_mark, IsTooLong, IsPartTooLong, PackageTooLong, parts_of, json_mark, field_mark, value_mark, EnumNamesBreak, MessageNames, MessageNamesBreak, names_of}
 use Rattle.proto_checks.specs.Elements.{BodyBreaks, MessageBreaks, EnumBreaks, ServiceBreaks, bodies, bodies_of}
 use Rattle.proto_base.specs.declared.spot.Spot.{Spot}
@@ -33,7 +34,6 @@ use Rattle.proto_file.proofs.Spots.{Placed, SpotWithin, at_spot, each_within, la
 use Rattle.proto_file.proofs.Within.{enum_breaks, body_breaks, service_breaks, parts_break, statements_break}
 use Rattle.proto_desc.specs.declared.message.MessageDesc.TheViews.{out-MessageDesc}
 use Rattle.proto_base.specs.declared.kind.Kind.TheVariants as kind
-use Rattle.proto_tree.specs.declared.file.Statement.TheVariants as statement
 use Rattle.proto_desc.specs.declared.rules.Element.TheVariants as element
 use Rattle.proto_tree.specs.declared.message.MessageItem as message_item
 use Rattle.proto_tree.specs.declared.message.MessageItem.TheVariants as of
@@ -154,10 +154,6 @@ module _ (n : ℕ) where
 
   -- ---- files
 
-  file_settings : Gives (upto n) statement_tree file_setting setting_tree
-  file_settings (statement.Option o) all = (all.1.0, tt)
-  file_settings s all = tt
-
   package_long : (limits : Limits) (x : Spot) (p : Package) → Within (upto n) (package_tree p)
       → PackageTooLong limits p x → SpotWithin n x
   package_long limits x p all (inl b) =
@@ -203,23 +199,22 @@ module _ (n : ℕ) where
   head_breaks tree d x all at (inl (inl (inr b))) =
       later_within (λ p. Within (upto n) (package_tree p)) _ (λ (p : Package). p.keyword.start) kind.PackageTwice n _ x
       (λ p w. w.0)
-      (each_part (upto n) statement_tree _ package_tree _ (file_packages (upto n))
+      (each_part (upto n) statement_tree file_package package_tree _ (λ s w. grind arith)
       (listed (upto n) statement_tree tree.statements all.1)) b
   head_breaks tree d x all at (inl (inr b)) =
       text_twice n _ import_mark d.imports x (each_place (upto n) import_place d.imports at.imports) b
-  head_breaks tree d x all at (inr b) = statements_break n statement_tree _ element.File _ x
-      file_settings (listed (upto n) statement_tree tree.statements all.1) b
+  head_breaks tree d x all at (inr b) = statements_break n statement_tree file_setting element.File _ x
+      (λ s w. grind arith) (listed (upto n) statement_tree tree.statements all.1) b
 
   elements_break : (ss : List Statement) (x : Spot) → EachIn (upto n) statement_tree ss → ElementsBreak ss x
       → SpotWithin n x
-  elements_break ss x all (inl (inl b)) =
-      parts_break n statement_tree _ message_tree MessageBreaks _ x (file_messages (upto n))
-      (λ m w c. each_within (EachIn (upto n) message_item_tree) BodyBreaks n (bodies m.items) x
-      (by_items ItemBodies MessageBodies message_bodies other_bodies bodies_step m w) (body_breaks n x) c) all b
+  elements_break ss x all (inl (inl b)) = parts_break n statement_tree file_message message_tree MessageBreaks _ x
+      (λ s w. grind arith) (λ m w. each_within (EachIn (upto n) message_item_tree) BodyBreaks n (bodies m.items) x
+      (by_items ItemBodies MessageBodies message_bodies other_bodies bodies_step m w) (body_breaks n x)) all b
   elements_break ss x all (inl (inr b)) =
-      parts_break n statement_tree _ enum_tree EnumBreaks _ x (file_enums (upto n)) (enum_breaks n x) all b
-  elements_break ss x all (inr b) = parts_break n statement_tree _ service_tree ServiceBreaks _ x
-      (file_services (upto n)) (service_breaks n x) all b
+      parts_break n statement_tree file_enum enum_tree EnumBreaks _ x (λ s w. grind arith) (enum_breaks n x) all b
+  elements_break ss x all (inr b) = parts_break n statement_tree file_service service_tree ServiceBreaks _ x
+      (λ s w. grind arith) (service_breaks n x) all b
 
   described_names_break : (d : FileDesc) (x : Spot) → DescPlaces d → NamesBreak d x → SpotWithin n x
   described_names_break d x at (inl b) = each_within NamesAt MessageNamesBreak n (flat_map names_of d.messages) x
@@ -230,8 +225,8 @@ module _ (n : ℕ) where
 
   lengths_break : (limits : Limits) (ss : List Statement) (d : FileDesc) (x : Spot)
       → EachIn (upto n) statement_tree ss → DescPlaces d → LengthsBreak limits ss d x → SpotWithin n x
-  lengths_break limits ss d x all at (inl b) = parts_break n statement_tree _ package_tree
-      (PackageTooLong limits) _ x (file_packages (upto n)) (package_long limits x) all b
+  lengths_break limits ss d x all at (inl b) = parts_break n statement_tree file_package package_tree
+      (PackageTooLong limits) _ x (λ s w. grind arith) (package_long limits x) all b
   lengths_break limits ss d x all at (inr b) = each_within DeclaredAt (IsTooLong limits) n (declared_by d) x
       (declared_at d at) (λ d within s. at_spot n d.place _ x within s.1) b
 

@@ -1,12 +1,10 @@
 -- Where tokens begin and where a source's own faults stand: within its text.
-use Rattle.std.proofs.Common.{◌≡◌, sym, subst, ap, ℕ, zero, suc, ◌+◌, ◌≤◌, Bool, true, false, if◌then◌else◌, List, [], ◌∷◌, length, take, drop, Some, None, inl, inr, refl, arith, length-drop}
-use Rattle.std.specs.Prelude.{nat_eq}
+use Rattle.std.proofs.Common.{sym, subst, ℕ, zero, suc, ◌+◌, ◌≤◌, List, [], ◌∷◌, length, take, drop, inl, inr, arith, length-drop}
 use Rattle.std.specs.Cmp.Lexicographic.{same_text}
-use Rattle.std.specs.List.{starts_with}
 use Rattle.std.proofs.lemmas.List.{length-take}
 use Rattle.std.proofs.lemmas.Str.{utf8_valid_len_le}
 use Rattle.proto_base.specs.Limits.{limit_of}
-use Rattle.proto_tokens.specs.Spelling.{Piece, IsCutIntoPieces, IsFault, IsTokenList, mark_len, with_token, tokens_from}
+use Rattle.proto_tokens.specs.Spelling.{Piece, IsCutIntoPieces, IsFault, IsTokenList, mark_len, tokens_from}
 use Rattle.proto_tokens.specs.Token.{Spelled}
 use Rattle.proto_tokens.proofs.CutLemmas.{cut_within, piece_fault_within}
 use Rattle.proto_base.specs.declared.file_fault.FileFault.{FileFault}
@@ -20,7 +18,6 @@ use Rattle.proto_desc.specs.Places.{places_of}
 use Rattle.proto_desc.specs.declared.file.FileDesc.{FileDesc}
 use Rattle.proto_file.specs.Places.{AllWithin}
 use Rattle.proto_file.proofs.PlacesWithin.{BeginWithin, Within, begun, lowered_within, upto}
-use Rattle.proto_base.specs.Least.{spot}
 use Rattle.proto_file.proofs.FileWithin.{breaks_within}
 use Rattle.proto_file.specs.Local.{Describes, IsFile, IsLocalFault, of_tokens, of_grammar, of_checks}
 use Rattle.proto_syntax.specs.Told.{place_of_token}
@@ -38,10 +35,7 @@ pub pieces_in : (region : ℕ → Type 0) (s : List ℕ) (from : ℕ) (ps : List
 pieces_in region s from [] to h cut = tt
 pieces_in region s from (p ∷ ps) to h cut =
     let later = pieces_in region s (from + p.len) ps to (λ k low high. h k (omega (arith, low)) high) cut.1 in
-    elim p.is as (λ is. BeginWithin region (with_token is from (from + p.len) (tokens_from (from + p.len) ps))) [
-      | None ↦ later
-      | Some lexeme ↦ (h from (omega arith) (cut_grows s from (p ∷ ps) to cut), later)
-    ]
+    grind (arith, h, cut_grows s from (p ∷ ps) to cut)
 
 tokens_begin : (bytes : ℕ) (text : List ℕ) (ts : List Spelled) → IsTokenList bytes text ts
     → BeginWithin (upto (length text)) ts
@@ -49,8 +43,7 @@ tokens_begin bytes text ts is = subst (BeginWithin (upto (length text))) is.spel
     (pieces_in (upto (length text)) text _ is.spelled_so.0 (length text) (λ k low high. high) is.spelled_so.1)
 
 token_begins : (n : ℕ) (ts : List Spelled) (k : ℕ) → BeginWithin (upto n) ts → place_of_token ts k n ≤ n
-token_begins n [] zero begin = omega arith
-token_begins n [] (suc k) begin = omega arith
+token_begins n [] k begin = grind arith
 token_begins n (t ∷ ts) zero begin = begin.0
 token_begins n (t ∷ ts) (suc k) begin = token_begins n ts k begin.1
 
@@ -71,15 +64,11 @@ abbrev mark : List ℕ
 mark = 0xEF ∷ 0xBB ∷ 0xBF ∷ []
 
 mark_within : (s : List ℕ) → mark_len s ≤ length s
-mark_within s = by (starts_with nat_eq s mark) refl
-  where
-    by : (b : Bool) → b ≡ starts_with nat_eq s mark → (if b then 3 else 0) ≤ length s
-    by true e = omega (arith, ap length (same_text mark (take 3 s) e), length-take 3 s)
-    by false e = omega arith
+mark_within s = grind (arith, same_text mark (take 3 s), length-take 3 s)
 
 token_fault_within : (bytes : ℕ) (s : List ℕ) (place : ℕ) (kind : Kind) → IsFault bytes s place kind → place ≤ length s
-token_fault_within bytes s place kind (inl long) = omega (arith, long.1)
-token_fault_within bytes s place kind (inr (inl bad)) = omega (arith, bad.1, utf8_valid_len_le s)
+token_fault_within bytes s place kind (inl long) = grind arith
+token_fault_within bytes s place kind (inr (inl bad)) = grind (arith, utf8_valid_len_le s)
 token_fault_within bytes s place kind (inr (inr (short, utf8, bad))) =
     let (ps, to, at, cut, fault, is) = bad in
     omega (
@@ -93,9 +82,7 @@ token_fault_within bytes s place kind (inr (inr (short, utf8, bad))) =
 -- that of a text that is too long stands at its start
 token_fault_short : (bytes : ℕ) (s : List ℕ) (place : ℕ) (kind : Kind) → IsFault bytes s place kind → place ≤ length s
     → place ≤ bytes
-token_fault_short bytes s place kind (inl long) within = omega (arith, long.1)
-token_fault_short bytes s place kind (inr (inl bad)) within = omega (arith, within, bad.2)
-token_fault_short bytes s place kind (inr (inr bad)) within = omega (arith, within, bad.0)
+token_fault_short bytes s place kind fault within = grind arith
 
 -- ---- places of one source
 

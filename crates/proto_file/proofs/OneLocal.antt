@@ -1,7 +1,6 @@
 -- A source by itself is one thing: what it describes, or its one fault.
-use Rattle.std.proofs.Common.{◌≡◌, ◌∙◌, ℕ, List, Some, ap, sym, subst, length}
+use Rattle.std.proofs.Common.{◌≡◌, ◌∙◌, ℕ, List, Some, ap, sym, subst}
 use Rattle.proto_base.specs.Limits.{limit_of}
-use Rattle.proto_tokens.specs.Spelling.{IsFault}
 use Rattle.proto_base.specs.declared.file_fault.FileFault.{FileFault}
 use Rattle.proto_base.specs.declared.kind.Kind.{Kind}
 use Rattle.proto_base.specs.declared.limits.Limit.TheVariants as limit
@@ -22,8 +21,7 @@ use Rattle.proto_checks.specs.Checks.{FileBreaks}
 use Rattle.proto_base.specs.FileFaults.{at_step}
 use Rattle.proto_base.specs.Least.{IsLeast, spot}
 use Rattle.proto_base.proofs.Spots.{one_spot, same_place}
-use Rattle.proto_file.specs.Local.{Describes, IsBrokenAt, IsFile, IsGrammarFault, IsLocalFault, IsUnbroken, of_tokens, of_grammar, of_checks}
-use Rattle.proto_syntax.specs.Told.{place_of_token}
+use Rattle.proto_file.specs.Local.{Describes, IsBrokenAt, IsFile, IsGrammarFault, IsLocalFault, of_tokens, of_grammar, of_checks}
 
 one_file : (limits : Limits) (text : List ℕ) (f g : FileTree) → IsFile limits text f → IsFile limits text g → f ≡ g
 one_file limits text f g (ts, is, tree) (us, is', tree') =
@@ -32,12 +30,7 @@ one_file limits text f g (ts, is, tree) (us, is', tree') =
     (only_tree _ ts (file_tree f) (file_tree g) tree
     (subst (λ vs. IsTreeOf (limit_of limits limit.Depth) vs (file_tree g)) same tree'))
 
--- ---- a file has no fault of its tokens or of the grammar
-
-no_token_fault : (limits : Limits) (text : List ℕ) (f : FileTree) (place : ℕ) (kind : Kind) → IsFile limits text f
-    → IsFault (limit_of limits limit.FileBytes) text place kind → ⊥
-no_token_fault limits text f place kind is fault =
-    tokens_no_fault (limit_of limits limit.FileBytes) text is.0 place kind is.1 fault
+-- ---- a file has no fault of the grammar
 
 no_grammar_fault : (limits : Limits) (text : List ℕ) (f : FileTree) (place : ℕ) (kind : Kind) → IsFile limits text f
     → IsGrammarFault limits text place kind → ⊥
@@ -53,8 +46,7 @@ one_grammar_fault limits text p q a b (ts, j, is, fault, is_kind, at) (us, k, is
     let token : k ≡ j = one_fault _ ts k j
     (subst (λ vs. IsFaultAt (limit_of limits limit.Depth) vs k) same fault') fault in
     let kind' : IsKindOf ts j b = subst (λ i. IsKindOf ts i b) token (subst (λ vs. IsKindOf vs k b) same is_kind') in (
-      at ∙ sym (ap (λ i. place_of_token ts i (length text)) token)
-          ∙ sym (ap (λ vs. place_of_token vs k (length text)) same) ∙ sym at',
+      cc,
       one_kind ts j a b is_kind kind',
     )
 
@@ -64,11 +56,6 @@ one_grammar_fault limits text p q a b (ts, j, is, fault, is_kind, at) (us, k, is
 same_spot : (x y : Spot) → x.place.offset ≡ y.place.offset → x.kind ≡ y.kind → x ≡ y
 same_spot x y place kind =
     let at = same_place x.place y.place place in ap (λ p. spot p x.kind) at ∙ ap (spot y.place) kind
-
-no_broken : (limits : Limits) (name text : List ℕ) (f : FileTree) (x : Spot) → IsFile limits text f
-    → IsUnbroken limits name f → IsBrokenAt limits name text x → ⊥
-no_broken limits name text f x is unbroken (g, is', least) =
-    unbroken x (subst (λ h. FileBreaks limits h (lowered name h) x) (one_file limits text g f is' is) least.is.among)
 
 one_broken : (limits : Limits) (name text : List ℕ) (x y : Spot) → IsBrokenAt limits name text x
     → IsBrokenAt limits name text y → x ≡ y
@@ -90,11 +77,11 @@ one_descriptor limits name text f g (tree, is, unbroken, made) (other, is', unbr
 pub no_local : (limits : Limits) (name text : List ℕ) (desc : FileDesc) (x : FileFault)
     → Describes limits name text desc → IsLocalFault limits name text x → ⊥
 no_local limits name text desc x (f, is, unbroken, made) (of_tokens s fault) =
-    no_token_fault limits text f _ _ is fault
+    tokens_no_fault _ text is.0 _ _ is.1 fault
 no_local limits name text desc x (f, is, unbroken, made) (of_grammar s fault) =
     no_grammar_fault limits text f _ _ is fault
-no_local limits name text desc x (f, is, unbroken, made) (of_checks s broken) =
-    no_broken limits name text f _ is unbroken broken
+no_local limits name text desc x (f, is, unbroken, made) (of_checks s (g, is', least)) = unbroken x.spot
+    (subst (λ h. FileBreaks limits h (lowered name h) x.spot) (one_file limits text g f is' is) least.is.among)
 
 -- faults of one step, place and kind are one
 same_fault : (x y : FileFault) → x.step ≡ y.step → x.spot ≡ y.spot → x ≡ y
@@ -102,23 +89,17 @@ same_fault x y step same = ap (λ s. at_step s x.spot) step ∙ ap (at_step y.st
 
 pub one_local : (limits : Limits) (name text : List ℕ) (x y : FileFault) → IsLocalFault limits name text x
     → IsLocalFault limits name text y → x ≡ y
-one_local limits name text x y (of_tokens step fault) (of_tokens step' fault') =
-    let same = file_fault_one _ text _ _ _ _ fault fault' in
-    same_fault x y (step ∙ sym step') (same_spot x.spot y.spot same.0 same.1)
-one_local limits name text x y (of_tokens step fault) (of_grammar step' fault') =
-    absurd (tokens_no_fault _ text fault'.0 _ _ fault'.2 fault)
-one_local limits name text x y (of_tokens step fault) (of_checks step' broken) =
-    absurd (no_token_fault limits text broken.0 _ _ broken.1 fault)
-one_local limits name text x y (of_grammar step fault) (of_tokens step' fault') =
-    absurd (tokens_no_fault _ text fault.0 _ _ fault.2 fault')
-one_local limits name text x y (of_grammar step fault) (of_grammar step' fault') =
-    let same = one_grammar_fault limits text _ _ _ _ fault fault' in
-    same_fault x y (step ∙ sym step') (same_spot x.spot y.spot same.0 same.1)
-one_local limits name text x y (of_grammar step fault) (of_checks step' broken) =
-    absurd (no_grammar_fault limits text broken.0 _ _ broken.1 fault)
-one_local limits name text x y (of_checks step broken) (of_tokens step' fault') =
-    absurd (no_token_fault limits text broken.0 _ _ broken.1 fault')
-one_local limits name text x y (of_checks step broken) (of_grammar step' fault') =
-    absurd (no_grammar_fault limits text broken.0 _ _ broken.1 fault')
-one_local limits name text x y (of_checks step broken) (of_checks step' broken') =
-    same_fault x y (step ∙ sym step') (one_broken limits name text _ _ broken broken')
+one_local limits name text x y (of_tokens s f) (of_tokens t g) =
+    let same = file_fault_one _ text _ _ _ _ f g in
+    same_fault x y (s ∙ sym t) (same_spot x.spot y.spot same.0 same.1)
+one_local limits name text x y (of_grammar s f) (of_grammar t g) =
+    let same = one_grammar_fault limits text _ _ _ _ f g in
+    same_fault x y (s ∙ sym t) (same_spot x.spot y.spot same.0 same.1)
+one_local limits name text x y (of_checks s f) (of_checks t g) =
+    same_fault x y (s ∙ sym t) (one_broken limits name text _ _ f g)
+one_local limits name text x y (of_tokens s f) (of_grammar t g) = absurd (tokens_no_fault _ text g.0 _ _ g.2 f)
+one_local limits name text x y (of_tokens s f) (of_checks t g) = absurd (tokens_no_fault _ text g.1.0 _ _ g.1.1 f)
+one_local limits name text x y (of_grammar s f) (of_tokens t g) = absurd (tokens_no_fault _ text f.0 _ _ f.2 g)
+one_local limits name text x y (of_grammar s f) (of_checks t g) = absurd (no_grammar_fault limits text g.0 _ _ g.1 f)
+one_local limits name text x y (of_checks s f) (of_tokens t g) = absurd (tokens_no_fault _ text f.1.0 _ _ f.1.1 g)
+one_local limits name text x y (of_checks s f) (of_grammar t g) = absurd (no_grammar_fault limits text f.0 _ _ f.1 g)

@@ -1,19 +1,17 @@
 -- The places of a descriptor are those of tokens: they lie within a text in which the tokens of the tree begin.
-use Rattle.std.proofs.Common.{◌≡◌, ◌∙◌, ap, sym, subst, ℕ, ◌≤◌, Bool, true, false, cond, List, [], ◌∷◌, ◌++◌, map, ◌+◌}
-use Rattle.std.specs.Prelude.{flat_map, bytes_eq, codes, Option, None, Some, slice_get}
+use Rattle.std.proofs.Common.{◌≡◌, ◌∙◌, ap, sym, subst, arith, ℕ, ◌≤◌, Bool, false, cond, List, [], ◌∷◌, ◌++◌, map, ◌+◌}
+use Rattle.std.specs.Prelude.{flat_map, Option, None, Some, slice_get}
 use Rattle.std.specs.List.{AllByRecursion}
 use Rattle.std.proofs.lemmas.List.Folds.{flat_map-map}
 use Rattle.std.specs.Option.{option_to_list, option_map}
-use Rattle.std.specs.Str.{byte}
 use Rattle.proto_tokens.specs.Token.{Spelled}
 use Rattle.proto_base.specs.declared.place.Place.{Place}
 use Rattle.proto_base.specs.declared.place.Span.{Span}
 use Rattle.proto_syntax.specs.Grammar.{Tree, Pair, Left, Right, flatten, Empty, Leaf}
-use Rattle.proto_syntax.specs.Trees.{symbol_tree, row, next_tree, optional, declarator_tree, setting_tree, separated_tree, options_tree, dotted_tree, type_tree, unlabelled_tree, field_statement_tree, oneof_item_tree, oneof_tree, map_tree, message_item_tree, word_tree, str_tree, enum_item_tree, enum_tree, message_tree, streamed_tree, rpc_type_tree, rpc_tree, service_item_tree, service_tree, statement_tree, member_tree, package_tree, value_tree}
+use Rattle.proto_syntax.specs.Trees.{row, next_tree, optional, declarator_tree, setting_tree, separated_tree, options_tree, dotted_tree, type_tree, field_statement_tree, oneof_item_tree, map_tree, message_item_tree, enum_item_tree, enum_tree, message_tree, rpc_type_tree, rpc_tree, service_item_tree, service_tree, statement_tree, member_tree, package_tree}
 use Rattle.proto_tree.specs.declared.field.Declarator.{Declarator}
 use Rattle.proto_tree.specs.declared.field.FieldType.{FieldType}
 use Rattle.proto_tree.specs.declared.field.Label.{Label}
-use Rattle.proto_tree.specs.declared.list.Next.{Next}
 use Rattle.proto_tree.specs.declared.list.Separated.{Separated}
 use Rattle.proto_tree.specs.declared.name.FullName.{FullName}
 use Rattle.proto_tree.specs.declared.option.Options.{Options}
@@ -22,9 +20,9 @@ use Rattle.proto_desc.specs.declared.options.OptionDesc.{OptionDesc}
 use Rattle.proto_desc.specs.declared.rules.Element.{Element}
 use Rattle.proto_desc.specs.declared.rules.ValueKind.{ValueKind}
 use Rattle.proto_lower.specs.Fields.{type_place, kind_of, described, label_of, is_optional, inner, member_at, fields_from, reference_of, real_count}
-use Rattle.proto_options.specs.Options.{bracketed, is_setting, first_setting, value_of}
+use Rattle.proto_options.specs.Options.{bracketed, first_setting}
 use Rattle.proto_tree.specs.Lists.{next_item, separated}
-use Rattle.proto_lower.specs.Options.{option_at, option_by, option_under, options_of}
+use Rattle.proto_lower.specs.Options.{option_by, option_under, options_of}
 use Rattle.proto_desc.specs.Places.{kind_places, option_place, field_places, reference_places, oneof_place, value_place, enum_places, places_step, message_places, method_places, service_places, package_places, import_place, places_of}
 use Rattle.proto_desc.specs.Rules.{Rule, rules_of}
 use Rattle.proto_syntax.proofs.Items.{item_field, item_map, item_oneof, item_enum, item_message}
@@ -40,6 +38,7 @@ use Rattle.proto_tree.specs.declared.file.FileTree.{FileTree}
 use Rattle.proto_tree.specs.declared.file.Statement.{Statement}
 use Rattle.proto_tree.specs.declared.message.Message.{Message, roll-Message, ind-Message}
 use Rattle.proto_tree.specs.declared.message.MessageItem.{MessageItem, MessageItem-F, roll-MessageItem, map-MessageItem}
+use Rattle.proto_tree.specs.declared.oneof.OneofField.{OneofField}
 use Rattle.proto_tree.specs.declared.service.Rpc.{Rpc}
 use Rattle.proto_tree.specs.declared.service.RpcType.{RpcType}
 use Rattle.proto_tree.specs.declared.service.Service.{Service}
@@ -59,17 +58,11 @@ use Rattle.proto_lower.specs.Oneofs.{real_named, real_oneofs, with_one, with_mad
 use Rattle.proto_lower.specs.Services.{method_desc, lowered_service}
 use Rattle.proto_lower.proofs.Nested.{nested_message}
 use Rattle.proto_tree.specs.declared.file.Package.{Package}
-use Rattle.proto_tree.specs.declared.field.FieldType.TheVariants as field_type
-use Rattle.proto_tree.specs.declared.field.Label.TheVariants as label
 use Rattle.proto_tree.specs.declared.message.MessageItem as message_item
-use Rattle.proto_tree.specs.declared.oneof.OneofItem.TheVariants as oneof_item
 use Rattle.proto_desc.specs.declared.rules.Element.TheVariants as element
 use Rattle.proto_desc.specs.declared.type_name.TypeKind.TheVariants as type_kind
-use Rattle.proto_tree.specs.declared.enumeration.EnumItem.TheVariants as enum_item
-use Rattle.proto_tree.specs.declared.file.Statement.TheVariants as statement
 use Rattle.proto_tree.specs.declared.message.MessageItem.TheOpen as opened
 use Rattle.proto_tree.specs.declared.message.MessageItem.TheVariants as of
-use Rattle.proto_tree.specs.declared.service.ServiceItem.TheVariants as service_item
 
 -- all of these places are in a region, which is a set of places; one is
 abbrev pub AreIn : (ℕ → Type 0) → List ℕ → Type 0
@@ -180,13 +173,17 @@ module _ (R : MessageItem → Type 0) (Q : Message → Type 0) (of_message : (m 
       → R (roll-MessageItem (map-MessageItem ((i : MessageItem) × R i) ((m : Message) × Q m) MessageItem Message
       (λ e. e.0) (λ e. e.0) y))
   rolled (opened.Message m) = subst R (sym (of.rolls-Message m.0)) (of_message m.0 m.1)
-  rolled (opened.Map a) = subst R (sym (of.rolls-Map a)) (other (of.Map a) tt)
-  rolled (opened.Enum a) = subst R (sym (of.rolls-Enum a)) (other (of.Enum a) tt)
-  rolled (opened.Option a) = subst R (sym (of.rolls-Option a)) (other (of.Option a) tt)
-  rolled (opened.Oneof a) = subst R (sym (of.rolls-Oneof a)) (other (of.Oneof a) tt)
-  rolled (opened.Reserved a) = subst R (sym (of.rolls-Reserved a)) (other (of.Reserved a) tt)
-  rolled (opened.Empty a) = subst R (sym (of.rolls-Empty a)) (other (of.Empty a) tt)
-  rolled (opened.Field a) = subst R (sym (of.rolls-Field a)) (other (of.Field a) tt)
+  rolled y = grind (
+    arith,
+    other,
+    of.rolls-Map,
+    of.rolls-Enum,
+    of.rolls-Option,
+    of.rolls-Oneof,
+    of.rolls-Reserved,
+    of.rolls-Empty,
+    of.rolls-Field,
+  )
 
   pub by_items : ((m : Message) → AllByRecursion R m.items → Q m) → (m : Message) → Q m
   by_items step = ind-Message R Q (λ x y e. subst (λ z. R (roll-MessageItem z)) e (rolled y))
@@ -246,65 +243,29 @@ module _ (region : ℕ → Type 0) where
 
   pub separated_of : {A : Type 0} (f : A → Tree) (s : Separated A) → Within region (separated_tree f s)
       → EachIn f (separated s)
-  separated_of {A} f s all = (all.0, each s.rest all.1)
-    where
-      each : (xs : List (Next A)) → Within region (row (next_tree f) xs) → EachIn f (map next_item xs)
-      each [] all = tt
-      each (x ∷ xs) all = (all.0.1, each xs all.1)
+  separated_of f s all = (
+    all.0,
+    each_map (λ x. Within region (f x)) next_item s.rest
+        (each_weaker (λ x. Within region (next_tree f x)) (λ x. Within region (f (next_item x))) s.rest (λ x w. w.1)
+        (listed (next_tree f) s.rest all.1)),
+  )
 
   pub bracketed_of : (o : Option Options) → Within region (optional options_tree o)
       → EachIn setting_tree (bracketed o)
-  bracketed_of None all = tt
-  bracketed_of (Some o) all = separated_of setting_tree o.settings all.1.0
-
-  pub file_messages : Gives statement_tree file_message message_tree
-  file_messages (statement.Message m) all = (all, tt)
-  file_messages s all = tt
-
-  pub file_enums : Gives statement_tree file_enum enum_tree
-  file_enums (statement.Enum e) all = (all, tt)
-  file_enums s all = tt
-
-  pub file_services : Gives statement_tree file_service service_tree
-  file_services (statement.Service s) all = (all, tt)
-  file_services s all = tt
-
-  pub file_packages : Gives statement_tree file_package package_tree
-  file_packages (statement.Package p) all = (all, tt)
-  file_packages s all = tt
-
-  pub message_oneofs : Gives message_item_tree message_oneof oneof_tree
-  message_oneofs (message_item.Oneof o) all = (subst (Within region) (item_oneof o) all, tt)
-  message_oneofs i all = tt
-
-  pub message_enums : Gives message_item_tree message_enum enum_tree
-  message_enums (message_item.Enum e) all = (subst (Within region) (item_enum e) all, tt)
-  message_enums i all = tt
-
-  pub oneof_fields : Gives oneof_item_tree oneof_field member_tree
-  oneof_fields (oneof_item.Field f) all = (all, tt)
-  oneof_fields i all = tt
-
-  pub enum_values : Gives enum_item_tree enum_value value_tree
-  enum_values (enum_item.Value v) all = (all, tt)
-  enum_values i all = tt
-
-  pub service_rpcs : Gives service_item_tree service_rpc rpc_tree
-  service_rpcs (service_item.Rpc r) all = (all, tt)
-  service_rpcs i all = tt
+  bracketed_of o all = grind (arith, separated_of)
 
   -- what the parts of elements are lowered to, and the places of that
-  each_made : {A B C : Type 0} (P : C → Type 0) (lower : B → C) (f : A → Tree) (g : A → List B) (t : B → Tree)
-      (xs : List A) → Gives f g t → ((y : B) → Within region (t y) → P (lower y)) → EachIn f xs
+  each_made : {A B C : Type 0} (P : C → Type 0) (lower : B → C) (f : A → Tree) (g : A → List B) (xs : List A)
+      → ((x : A) → Within region (f x) → AllByRecursion (λ y. P (lower y)) (g x)) → EachIn f xs
       → AllByRecursion P (map lower (flat_map g xs))
-  each_made P lower f g t xs gives h all = each_map P lower (flat_map g xs)
-      (each_weaker (λ y. Within region (t y)) (λ y. P (lower y)) (flat_map g xs) h (each_part f _ t _ gives all))
+  each_made P lower f g xs h all = each_map P lower (flat_map g xs)
+      (each_given (λ x. Within region (f x)) (λ y. P (lower y)) g xs h all)
 
-  each_lowered : {A B C : Type 0} (places : C → List ℕ) (lower : B → C) (f : A → Tree) (g : A → List B) (t : B → Tree)
-      (xs : List A) → Gives f g t → ((y : B) → Within region (t y) → AreIn region (places (lower y))) → EachIn f xs
+  each_lowered : {A B C : Type 0} (places : C → List ℕ) (lower : B → C) (f : A → Tree) (g : A → List B) (xs : List A)
+      → ((x : A) → Within region (f x) → AllByRecursion (λ y. AreIn region (places (lower y))) (g x)) → EachIn f xs
       → AreIn region (flat_map places (map lower (flat_map g xs)))
-  each_lowered places lower f g t xs gives h all = each_flat region places (map lower (flat_map g xs))
-      (each_made (λ z. AreIn region (places z)) lower f _ t _ gives h all)
+  each_lowered places lower f g xs h all = each_flat region places (map lower (flat_map g xs))
+      (each_made (λ z. AreIn region (places z)) lower f g xs h all)
 
   -- ---- options
 
@@ -315,12 +276,7 @@ module _ (region : ℕ → Type 0) where
       → AllByRecursion OptionWithin (option_to_list (option_by number kind (first_setting word ss)))
   option_within None kind word ss all = tt
   option_within (Some n) kind word [] all = tt
-  option_within (Some n) kind word (s ∷ ss) all = elim (is_setting word s) as (λ first. AllByRecursion OptionWithin
-      (option_to_list (option_by (Some n) kind (cond first (Some s) (first_setting word ss))))) [
-        | true ↦ elim (value_of kind s.value) as (λ v. AllByRecursion OptionWithin
-            (option_to_list (option_map (option_at n s) v))) [ None ↦ tt | Some v ↦ (all.0.0.0, tt) ]
-        | false ↦ option_within (Some n) kind word ss all.1
-      ]
+  option_within (Some n) kind word (s ∷ ss) all = grind (arith, option_within (Some n) kind word ss all.1)
 
   options_within : (e : Element) (ss : List Setting) → EachIn setting_tree ss
       → AllByRecursion OptionWithin (options_of e ss)
@@ -333,12 +289,10 @@ module _ (region : ℕ → Type 0) where
 
   dotted_within : (dot : Option Span) (name : FullName) → Within region (dotted_tree dot name)
       → region ((type_place dot name).offset)
-  dotted_within None name all = all.0
-  dotted_within (Some dot) name all = all.0
+  dotted_within dot name all = grind arith
 
   kind_within : (t : FieldType) → Within region (type_tree t) → AreIn region (kind_places (kind_of t))
-  kind_within (field_type.Scalar s span) all = tt
-  kind_within (field_type.Named t) all = (dotted_within t.dot t.name all, tt)
+  kind_within t all = grind (arith, dotted_within)
 
   -- ---- fields
 
@@ -359,22 +313,13 @@ module _ (region : ℕ → Type 0) where
   abbrev pub TypeAndRest : FieldType → Declarator → Type 0
   TypeAndRest t d = AreIn region (kind_places (kind_of t)) × Within region (declarator_tree d)
 
-  one_of : {C : Type 0} (b : Bool) (x y : Tree) → Within region (cond b x y) → (Within region x → C)
-      → (Within region y → C) → C
-  one_of true x y all f g = f all
-  one_of false x y all f g = g all
-
   pub statement_field : (label : Option Label) (t : FieldType) (d : Declarator)
       → Within region (field_statement_tree label t d) → TypeAndRest t d
-  statement_field None (field_type.Named t) d all = unlabelled t.dot t.name all
-    where
-      unlabelled : (dot : Option Span) (name : FullName) → Within region (unlabelled_tree dot name d)
-          → TypeAndRest (field_type.Named (record { dot = dot; name = name })) d
-      unlabelled None name all = one_of (bytes_eq name.first.text (codes "map")) _ _ all
-          (λ w. ((w.0, tt), w.1.1)) (λ w. ((w.0.0, tt), w.1))
-      unlabelled (Some dot) name all = ((all.0.0, tt), all.1)
-  statement_field None (field_type.Scalar s span) d all = (tt, all.1)
-  statement_field (Some l) t d all = (kind_within t all.0.1, all.1)
+  statement_field label t d all = grind (arith, kind_within)
+
+  member_within : (real : ℕ) (f : OneofField) → Within region (member_tree f) → FieldWithin (member_at real f)
+  member_within real f w = described_within f.declarator Optional (kind_of f.field_type) (Some real) false w.1
+      (kind_within f.field_type w.0)
 
   fields_within : (full : List ℕ) (real made : ℕ) (is : List MessageItem) → EachIn message_item_tree is
       → AllByRecursion FieldWithin (fields_from full real made is)
@@ -394,9 +339,8 @@ module _ (region : ℕ → Type 0) where
   )
   fields_within full real made (message_item.Oneof o ∷ is) all =
       both FieldWithin (map (member_at real) (flat_map oneof_field o.items)) (fields_from full (real + 1) made is)
-      (each_made FieldWithin (member_at real) oneof_item_tree _ member_tree _ oneof_fields
-      (λ f w. described_within f.declarator Optional (kind_of f.field_type) (Some real) false w.1
-      (kind_within f.field_type w.0))
+      (each_made FieldWithin (member_at real) oneof_item_tree oneof_field _
+      (λ i w. grind (arith, member_within real))
       (listed oneof_item_tree o.items (subst (Within region) (item_oneof o) all.0).1.1.1.0))
       (fields_within full (real + 1) made is all.1)
   fields_within full real made (i ∷ is) all = fields_within full real made is all.1
@@ -406,19 +350,12 @@ module _ (region : ℕ → Type 0) where
   abbrev OneofWithin : OneofDesc → Type 0
   OneofWithin o = region (oneof_place o)
 
-  one_within : (names : List (List ℕ)) (so_far : List OneofDesc) (f : FieldDesc) (is_optional : Bool)
-      → AllByRecursion OneofWithin so_far → FieldWithin f
-      → AllByRecursion OneofWithin (with_one names so_far f is_optional)
-  one_within names so_far f true made field = both OneofWithin so_far _ made (field.0, tt)
-  one_within names so_far f false made field = made
-
   made_within : (names : List (List ℕ)) (so_far : List OneofDesc) (fs : List FieldDesc)
       → AllByRecursion OneofWithin so_far → AllByRecursion FieldWithin fs
       → AllByRecursion OneofWithin (with_made names so_far fs)
   made_within names so_far [] made fields = made
   made_within names so_far (f ∷ fs) made fields =
-      made_within names (with_one names so_far f f.proto3_optional) fs
-      (one_within names so_far f f.proto3_optional made fields.0) fields.1
+      made_within names (with_one names so_far f f.proto3_optional) fs (grind (arith, both OneofWithin)) fields.1
 
   abbrev pub EnumWithin : EnumDesc → Type 0
   EnumWithin e = AreIn region (enum_places e)
@@ -427,7 +364,7 @@ module _ (region : ℕ → Type 0) where
   enum_within e all = (
     all.1.0,
     each_map region value_place (map value_desc (flat_map enum_value e.items))
-        (each_made (λ v. region (value_place v)) value_desc enum_item_tree _ value_tree _ enum_values (λ v w. w.0)
+        (each_made (λ v. region (value_place v)) value_desc enum_item_tree enum_value _ (λ i w. grind arith)
         (listed enum_item_tree e.items all.1.1.1.0)),
   )
 
@@ -489,10 +426,10 @@ module _ (region : ℕ → Type 0) where
       let fields = fields_within full 0 (real_count m.items) m.items items in
       desc_within _ all.1.0 fields
       (made_within _ (real_oneofs m.items) (all_fields full m.items)
-      (each_made OneofWithin (λ o. real_named o.name) message_item_tree _ oneof_tree _ message_oneofs (λ o w. w.1.0)
-      items) fields)
-      (each_lowered enum_places lowered_enum message_item_tree _ enum_tree _ message_enums enum_within
-      items)
+      (each_made OneofWithin (λ o. real_named o.name) message_item_tree message_oneof _
+      (λ i w. grind (arith, item_oneof)) items) fields)
+      (each_lowered enum_places lowered_enum message_item_tree message_enum _
+      (λ i w. grind (arith, item_enum, enum_within)) items)
       (each_held ItemNested (λ i. Within region (message_item_tree i)) DescWithin (nested_of full) m.items
       (λ i h w. h w full) held items)
 
@@ -500,12 +437,7 @@ module _ (region : ℕ → Type 0) where
 
   rpc_type_within : (t : RpcType) → Within region (rpc_type_tree t)
       → AreIn region (reference_places (reference_of t.name))
-  rpc_type_within t all = (streamed t.stream all.1.0, tt)
-    where
-      streamed : (stream : Option Span) → Within region (streamed_tree stream t.name)
-          → region ((type_place t.name.dot t.name.name).offset)
-      streamed None all = dotted_within t.name.dot t.name.name all
-      streamed (Some s) all = dotted_within t.name.dot t.name.name all.1
+  rpc_type_within t all = grind (arith, dotted_within)
 
   abbrev pub MethodWithin : MethodDesc → Type 0
   MethodWithin m = AreIn region (method_places m)
@@ -523,7 +455,7 @@ module _ (region : ℕ → Type 0) where
   service_within : (s : Service) → Within region (service_tree s) → ServiceWithin (lowered_service s)
   service_within s all = (
     all.1.0,
-    each_lowered method_places method_desc service_item_tree _ rpc_tree _ service_rpcs rpc_within
+    each_lowered method_places method_desc service_item_tree service_rpc _ (λ i w. grind (arith, rpc_within))
         (listed service_item_tree s.items all.1.1.1.0),
   )
 
@@ -536,14 +468,7 @@ module _ (region : ℕ → Type 0) where
 
   import_within : (s : Statement) → Within region (statement_tree s)
       → AllByRecursion (λ i. region (import_place i)) (import_of s)
-  import_within (statement.Import i) all = (path i.public all.1, tt)
-    where
-      path : (public : Option Span) → Within region
-          (Pair (optional (word_tree (codes "public")) public)
-          (Pair (str_tree i.path) (symbol_tree (byte ";") i.semicolon)))
-          → region (i.path.first.span.start.offset)
-      path public all = all.1.0.0
-  import_within s all = tt
+  import_within s all = grind arith
 
   pub lowered_within : (name : List ℕ) (file : FileTree) → Within region (row statement_tree file.statements)
       → AreIn region (places_of (lowered name file))
@@ -554,12 +479,11 @@ module _ (region : ℕ → Type 0) where
       (both region _ _
       (both region _ _
       (both region _ _
-      (package_within _ (each_part statement_tree _ package_tree _ file_packages ss))
+      (package_within _ (each_part statement_tree file_package package_tree _ (λ s w. grind arith) ss))
       (each_map region import_place _ (each_given (λ s. Within region (statement_tree s))
       (λ i. region (import_place i)) import_of file.statements import_within ss)))
-      (each_lowered message_places (lowered_message scope) statement_tree _ message_tree _
-      file_messages (λ m w. by_items ItemNested MessageNested message_nested other_nested message_step m w scope) ss))
-      (each_lowered enum_places lowered_enum statement_tree _ enum_tree _ file_enums enum_within
-      ss))
-      (each_lowered service_places lowered_service statement_tree _ service_tree _
-      file_services service_within ss)
+      (each_lowered message_places (lowered_message scope) statement_tree file_message _
+      (λ s w. grind (arith, by_items ItemNested MessageNested message_nested other_nested message_step)) ss))
+      (each_lowered enum_places lowered_enum statement_tree file_enum _ (λ s w. grind (arith, enum_within)) ss))
+      (each_lowered service_places lowered_service statement_tree file_service _
+      (λ s w. grind (arith, service_within)) ss)

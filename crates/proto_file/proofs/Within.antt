@@ -1,14 +1,10 @@
 -- The spots of a file's broken rules lie within a text in which the tokens of its tree begin: what stands in the tree.
-use Rattle.std.proofs.Common.{subst, ℕ, List, map, inl, inr}
-use Rattle.std.specs.Prelude.{flat_map, Option, None, Some}
+use Rattle.std.proofs.Common.{subst, arith, ℕ, List, map, inl, inr}
+use Rattle.std.specs.Prelude.{flat_map, Option}
 use Rattle.std.specs.List.{AllByRecursion}
-use Rattle.std.specs.Option.{option_to_list}
-use Rattle.std.specs.Str.{byte}
-use Rattle.proto_base.specs.declared.place.Span.{Span}
-use Rattle.proto_syntax.specs.Grammar.{Tree, Pair}
-use Rattle.proto_syntax.specs.Trees.{symbol_tree, optional, str_tree, constant_tree, sign_tree, number_tree, signed_tree, setting_tree, range_tree, range_end_tree, bound_tree, reserved_items_tree, declarator_tree, oneof_item_tree, oneof_tree, enum_item_tree, enum_tree, rpc_body_tree, rpc_item_tree, service_item_tree, service_tree, member_tree, message_item_tree, rpc_tree, value_tree}
+use Rattle.proto_syntax.specs.Grammar.{Tree}
+use Rattle.proto_syntax.specs.Trees.{optional, str_tree, constant_tree, number_tree, signed_tree, setting_tree, range_tree, range_end_tree, reserved_items_tree, declarator_tree, oneof_item_tree, oneof_tree, enum_item_tree, enum_tree, rpc_body_tree, rpc_item_tree, service_item_tree, service_tree, member_tree, message_item_tree, rpc_tree, value_tree}
 use Rattle.proto_tree.specs.declared.constant.Constant.{Constant}
-use Rattle.proto_tree.specs.declared.constant.Sign.{Sign}
 use Rattle.proto_tree.specs.declared.enumeration.Enum.{Enum}
 use Rattle.proto_tree.specs.declared.enumeration.EnumItem.{EnumItem}
 use Rattle.proto_tree.specs.declared.enumeration.EnumValue.{EnumValue}
@@ -19,19 +15,16 @@ use Rattle.proto_tree.specs.declared.option.Setting.{Setting}
 use Rattle.proto_tree.specs.declared.reserved.Range.{Range}
 use Rattle.proto_tree.specs.declared.reserved.RangeEnd.{RangeEnd}
 use Rattle.proto_tree.specs.declared.reserved.ReservedItems.{ReservedItems}
-use Rattle.proto_tree.specs.declared.reserved.UpperBound.{UpperBound}
-use Rattle.proto_tree.specs.Ranges.{number_of_bound}
-use Rattle.proto_tree.specs.declared.service.RpcBody.{RpcBody}
 use Rattle.proto_tree.specs.declared.service.Service.{Service}
-use Rattle.proto_syntax.proofs.Items.{item_field, item_map, item_oneof, item_option, item_reserved}
+use Rattle.proto_syntax.proofs.Items.{item_field, item_map, item_oneof, item_enum, item_option, item_reserved}
 use Rattle.proto_desc.specs.declared.rules.Element.{Element}
-use Rattle.proto_options.specs.Options.{bracketed, message_setting, enum_setting, service_setting, rpc_setting, oneof_setting}
-use Rattle.proto_options.specs.Statements.{oneof_field, enum_value, rpc_items, message_reserved, enum_reserved, ranges_in, names_in}
-use Rattle.proto_file.proofs.PlacesWithin.{Within, upto, EachIn, Gives, bracketed_of, each_part, enum_values, listed, message_enums, message_oneofs, oneof_fields, separated_of, service_rpcs, statement_field, each_weaker}
+use Rattle.proto_options.specs.Options.{message_setting, enum_setting, service_setting, rpc_setting, oneof_setting}
+use Rattle.proto_options.specs.Statements.{oneof_field, message_oneof, message_enum, service_rpc, enum_value, rpc_items, message_reserved, enum_reserved, ranges_in, names_in}
+use Rattle.proto_file.proofs.PlacesWithin.{Within, upto, EachIn, Gives, bracketed_of, each_part, listed, separated_of, statement_field, each_weaker}
 use Rattle.proto_checks.specs.Elements.{OneofBreaks, ValueBreaks, EnumBreaks, BodyBreaks, RpcBreaks, ServiceBreaks}
-use Rattle.proto_checks.specs.Gathered.{literal, with_sign, signed_number, field_number, field_numbers, value_numbers, marked_range, end_bound, bounds_of, reserved_name}
+use Rattle.proto_checks.specs.Gathered.{literal, signed_number, field_number, field_numbers, value_numbers, marked_range, end_bound, bounds_of, reserved_name}
 use Rattle.proto_checks.specs.Numbers.{RangesBreak, FieldNumbersBreak, EnumNumbersBreak}
-use Rattle.proto_checks.specs.Options.{name_place, value_place, SettingBreaks, SettingsBreak, OptionedField, optioned_in_oneof, optioned_fields, FieldOptionsBreak, IsWronglyPacked, IsWronglyTyped, number_place}
+use Rattle.proto_checks.specs.Options.{name_place, value_place, SettingBreaks, SettingsBreak, OptionedField, optioned_in_oneof, optioned_fields, FieldOptionsBreak, IsWronglyPacked, IsWronglyTyped}
 use Rattle.proto_checks.specs.Marks.{IsBackwards, Outside, TextTwice}
 use Rattle.proto_checks.specs.declared.marks.MarkedNumber.{MarkedNumber}
 use Rattle.proto_checks.specs.declared.marks.MarkedRange.{MarkedRange}
@@ -41,41 +34,19 @@ use Rattle.proto_base.specs.Sets.{Each, ◌∪◌}
 use Rattle.proto_base.specs.declared.kind.Kind.{Kind}
 use Rattle.proto_tree.specs.declared.literal.StringValue.{StringValue}
 use Rattle.proto_base.specs.declared.kind.Kind.TheVariants as kind
-use Rattle.proto_tree.specs.declared.constant.Constant.TheVariants as constant
-use Rattle.proto_tree.specs.declared.constant.Sign.TheVariants as sign
-use Rattle.proto_tree.specs.declared.enumeration.EnumItem.TheVariants as enum_item
 use Rattle.proto_tree.specs.declared.message.MessageItem as message_item
-use Rattle.proto_tree.specs.declared.oneof.OneofItem.TheVariants as oneof_item
-use Rattle.proto_tree.specs.declared.reserved.ReservedItems.TheVariants as reserved_items
-use Rattle.proto_tree.specs.declared.reserved.UpperBound.TheVariants as upper_bound
-use Rattle.proto_tree.specs.declared.service.RpcBody.TheVariants as rpc_body
-use Rattle.proto_tree.specs.declared.service.RpcItem.TheVariants as rpc_item
-use Rattle.proto_tree.specs.declared.service.ServiceItem.TheVariants as service_item
 use Rattle.proto_desc.specs.declared.rules.Element.TheVariants as element
 
 module _ (n : ℕ) where
   -- ---- options
 
   value_within : (c : Constant) → Within (upto n) (constant_tree c) → Placed n (value_place c)
-  value_within (constant.Name name) all = all.0
-  value_within (constant.Number c) all = number c.sign all
-    where
-      number : (s : Option Sign) → Within (upto n) (Pair (optional sign_tree s) (number_tree c.number))
-          → Placed n (number_place s c.number.span)
-      number None all = all.1
-      number (Some (sign.Minus s)) all = all.0
-      number (Some (sign.Plus s)) all = all.0
-  value_within (constant.String s) all = all.0
-
-  setting_breaks : (e : Element) (x : Spot) (s : Setting) → Within (upto n) (setting_tree s) → SettingBreaks e s x
-      → SpotWithin n x
-  setting_breaks e x s all (inl b) = at_spot n (name_place s) _ x all.0.0 b.1
-  setting_breaks e x s all (inr b) = at_spot n (value_place s.value) _ x (value_within s.value all.1.1) b.1
+  value_within c all = grind arith
 
   settings_break : (e : Element) (ss : List Setting) (x : Spot) → EachIn (upto n) setting_tree ss
       → SettingsBreak e ss x → SpotWithin n x
   settings_break e ss x all (inl b) = each_within (λ s. Within (upto n) (setting_tree s)) (SettingBreaks e) n ss x all
-      (setting_breaks e x) b
+      (λ s w c. grind (arith, value_within)) b
   settings_break e ss x all (inr b) = later_within (λ s. Within (upto n) (setting_tree s)) _ name_place kind.OptionTwice
       n ss x (λ s w. w.0.0) all b
 
@@ -87,11 +58,10 @@ module _ (n : ℕ) where
 
   -- what each part breaks
   pub parts_break : {A B : Type 0} (f : A → Tree) (g : A → List B) (t : B → Tree) (S : B → Spot → Type 0)
-      (xs : List A) (x : Spot) → Gives (upto n) f g t
-      → ((b : B) → Within (upto n) (t b) → S b x → SpotWithin n x) → EachIn (upto n) f xs
-      → Each (flat_map g xs) S x → SpotWithin n x
-  parts_break f g t S xs x gives h all b = each_within (λ y. Within (upto n) (t y)) S n (flat_map g xs) x
-      (each_part (upto n) f _ t _ gives all) h b
+      (xs : List A) (x : Spot) → Gives (upto n) f g t → ((b : B) → Within (upto n) (t b) → S b x → SpotWithin n x)
+      → EachIn (upto n) f xs → Each (flat_map g xs) S x → SpotWithin n x
+  parts_break f g t S xs x gives h all = each_within (λ y. Within (upto n) (t y)) S n (flat_map g xs) x
+      (each_part (upto n) f g t _ gives all) h
 
   -- ---- fields
 
@@ -110,37 +80,18 @@ module _ (n : ℕ) where
   declarator_of f = declarator_tree f.declarator
 
   message_fields : Gives (upto n) message_item_tree optioned_fields declarator_of
-  message_fields (message_item.Field f) all = (
-    (statement_field (upto n) f.label f.field_type f.declarator (subst (Within (upto n)) (item_field f) all)).1,
-    tt,
-  )
-  message_fields (message_item.Map m) all = ((subst (Within (upto n)) (item_map m) all).1.1, tt)
   message_fields (message_item.Oneof o) all =
       each_marked (λ f. Within (upto n) (member_tree f)) (λ f. Within (upto n) (declarator_of f)) optioned_in_oneof
       (flat_map oneof_field o.items) (λ f w. w.1)
-      (each_part (upto n) oneof_item_tree _ member_tree _ (oneof_fields (upto n))
+      (each_part (upto n) oneof_item_tree oneof_field member_tree _ (λ s w. grind arith)
       (listed (upto n) oneof_item_tree o.items (subst (Within (upto n)) (item_oneof o) all).1.1.1.0))
-  message_fields i all = tt
+  message_fields i all = grind (arith, statement_field (upto n), item_field, item_map)
 
   -- ---- what is reserved
 
-  reserved_ranges : {N : Type 0} (f : N → Tree) → Gives (upto n) (reserved_items_tree f) ranges_in (range_tree f)
-  reserved_ranges f (reserved_items.Ranges s) all = separated_of (upto n) (range_tree f) s all
-  reserved_ranges f (reserved_items.Names s) all = tt
-
-  reserved_names : {N : Type 0} (f : N → Tree) → Gives (upto n) (reserved_items_tree f) names_in str_tree
-  reserved_names f (reserved_items.Ranges s) all = tt
-  reserved_names f (reserved_items.Names s) all = separated_of (upto n) str_tree s all
-
   end_within : {N : Type 0} (f : N → Tree) (e : Option (RangeEnd N))
       → Within (upto n) (optional (range_end_tree f) e) → EachIn (upto n) f (end_bound e)
-  end_within {N} f None all = tt
-  end_within {N} f (Some e) all = by_bound e.bound all.1
-    where
-      by_bound : (b : UpperBound N) → Within (upto n) (bound_tree f b)
-          → EachIn (upto n) f (option_to_list (number_of_bound b))
-      by_bound (upper_bound.Number x) w = (w, tt)
-      by_bound (upper_bound.Max s) w = tt
+  end_within f e all = grind arith
 
   ranges_marked : {N : Type 0} (f : N → Tree) (mark : N → MarkedNumber) (greatest : ℕ) (rs : List (Range N))
       → ((y : N) → Within (upto n) (f y) → Placed n (mark y).place) → EachIn (upto n) (range_tree f) rs
@@ -173,12 +124,8 @@ module _ (n : ℕ) where
   names_break f is x all b = text_twice n _ reserved_name (flat_map names_in is) x
       (each_weaker (λ s. Within (upto n) (str_tree s)) (λ (s : StringValue). Placed n s.first.span.start)
       (flat_map names_in is) (λ s w. w.0)
-      (each_part (upto n) (reserved_items_tree f) _ str_tree _ (reserved_names f) all)) b
-
-  -- of a message
-  message_reserves : Gives (upto n) message_item_tree message_reserved (reserved_items_tree number_tree)
-  message_reserves (message_item.Reserved r) all = ((subst (Within (upto n)) (item_reserved r) all).1.0, tt)
-  message_reserves i all = tt
+      (each_part (upto n) (reserved_items_tree f) names_in str_tree _
+      (λ i w. grind (arith, separated_of (upto n) str_tree)) all)) b
 
   field_numbers_break : (is : List MessageItem) (x : Spot) → EachIn (upto n) message_item_tree is
       → FieldNumbersBreak is x → SpotWithin n x
@@ -191,30 +138,19 @@ module _ (n : ℕ) where
           (each_part (upto n) message_item_tree _ declarator_of _ message_fields all)
 
       reserved : EachIn (upto n) (reserved_items_tree number_tree) (flat_map message_reserved is)
-      reserved = each_part (upto n) message_item_tree _ (reserved_items_tree number_tree) _
-          message_reserves all
+      reserved = each_part (upto n) message_item_tree message_reserved (reserved_items_tree number_tree) _
+          (λ i w. grind (arith, item_reserved)) all
 
       by : FieldNumbersBreak is x → SpotWithin n x
       by (inl (inl (inl b))) = number_at _ _ n _ x numbers b
       by (inl (inl (inr b))) = number_twice n _ _ x numbers b
       by (inl (inr b)) = ranges_break number_tree literal _ _ _ _ _ _ x (λ y w. w)
-          (each_part (upto n) (reserved_items_tree number_tree) _ (range_tree number_tree) _
-          (reserved_ranges number_tree) reserved) numbers b
+          (each_part (upto n) (reserved_items_tree number_tree) ranges_in (range_tree number_tree) _
+          (λ i w. grind (arith, separated_of (upto n) (range_tree number_tree))) reserved) numbers b
       by (inr b) = names_break number_tree _ x reserved b
 
-  -- of an enum
-  enum_reserves : Gives (upto n) enum_item_tree enum_reserved (reserved_items_tree signed_tree)
-  enum_reserves (enum_item.Reserved r) all = (all.1.0, tt)
-  enum_reserves i all = tt
-
   signed_within : (s : SignedNumber) → Within (upto n) (signed_tree s) → Placed n (signed_number s).place
-  signed_within s all = by s.minus all
-    where
-      by : (minus : Option Span) → Within (upto n)
-          (Pair (optional (symbol_tree (byte "-")) minus) (number_tree s.number))
-          → Placed n (with_sign minus s.number).place
-      by None all = all.1
-      by (Some s) all = all.0
+  signed_within s all = grind arith
 
   enum_numbers_break : (is : List EnumItem) (x : Spot) → EachIn (upto n) enum_item_tree is → EnumNumbersBreak is x
       → SpotWithin n x
@@ -224,10 +160,10 @@ module _ (n : ℕ) where
       numbers = each_marked (λ v. Within (upto n) (value_tree v)) (λ (m : MarkedNumber). Placed n m.place)
           (λ (v : EnumValue). signed_number v.number) (flat_map enum_value is)
           (λ (v : EnumValue) w. signed_within v.number w.1.1.0)
-          (each_part (upto n) enum_item_tree _ value_tree _ (enum_values (upto n)) all)
+          (each_part (upto n) enum_item_tree enum_value value_tree _ (λ s w. grind arith) all)
 
       reserved : EachIn (upto n) (reserved_items_tree signed_tree) (flat_map enum_reserved is)
-      reserved = each_part (upto n) enum_item_tree _ (reserved_items_tree signed_tree) _ enum_reserves all
+      reserved = each_part (upto n) enum_item_tree enum_reserved (reserved_items_tree signed_tree) _ (λ s w. grind arith) all
 
       by : EnumNumbersBreak is x → SpotWithin n x
       by (inl (inl (inl (inl b)))) = at_spot n b.0.place _ x
@@ -235,75 +171,49 @@ module _ (n : ℕ) where
       by (inl (inl (inl (inr b)))) = number_at _ _ n _ x numbers b
       by (inl (inl (inr b))) = number_twice n _ _ x numbers b.1
       by (inl (inr b)) = ranges_break signed_tree signed_number _ _ _ _ _ _ x signed_within
-          (each_part (upto n) (reserved_items_tree signed_tree) _ (range_tree signed_tree) _
-          (reserved_ranges signed_tree) reserved) numbers b
+          (each_part (upto n) (reserved_items_tree signed_tree) ranges_in (range_tree signed_tree) _
+          (λ i w. grind (arith, separated_of (upto n) (range_tree signed_tree))) reserved) numbers b
       by (inr b) = names_break signed_tree _ x reserved b
 
   -- ---- elements
 
-  enum_settings : Gives (upto n) enum_item_tree enum_setting setting_tree
-  enum_settings (enum_item.Option o) all = (all.1.0, tt)
-  enum_settings i all = tt
-
   pub enum_breaks : (x : Spot) (e : Enum) → Within (upto n) (enum_tree e) → EnumBreaks e x → SpotWithin n x
-  enum_breaks x e all (inl (inl (inl b))) = at_spot n e.name.span.start _ x all.1.0 b.1
-  enum_breaks x e all (inl (inl (inr b))) =
-      enum_numbers_break e.items x (listed (upto n) enum_item_tree e.items all.1.1.1.0) b
-  enum_breaks x e all (inl (inr b)) = statements_break enum_item_tree _ element.Enum _ x enum_settings
-      (listed (upto n) enum_item_tree e.items all.1.1.1.0) b
-  enum_breaks x e all (inr b) = parts_break enum_item_tree _ value_tree ValueBreaks _ x
-      (enum_values (upto n))
-      (λ v w s. settings_break element.EnumValue (bracketed v.options) x
-      (bracketed_of (upto n) v.options w.1.1.1.0) s)
-      (listed (upto n) enum_item_tree e.items all.1.1.1.0) b
-
-  oneof_settings : Gives (upto n) oneof_item_tree oneof_setting setting_tree
-  oneof_settings (oneof_item.Option o) all = (all.1.0, tt)
-  oneof_settings i all = tt
+  enum_breaks x e all b =
+      let items = listed (upto n) enum_item_tree e.items all.1.1.1.0 in
+      by items all.1.0 b
+    where
+      by : EachIn (upto n) enum_item_tree e.items → Placed n e.name.span.start → EnumBreaks e x → SpotWithin n x
+      by items name (inl (inl (inl b))) = grind arith
+      by items name (inl (inl (inr b))) = enum_numbers_break e.items x items b
+      by items name (inl (inr b)) =
+          statements_break enum_item_tree enum_setting element.Enum _ x (λ s w. grind arith) items b
+      by items name (inr b) = parts_break enum_item_tree enum_value value_tree ValueBreaks _ x (λ s w. grind arith)
+          (λ v w. settings_break element.EnumValue _ x (bracketed_of (upto n) v.options w.1.1.1.0)) items b
 
   oneof_breaks : (x : Spot) (o : Oneof) → Within (upto n) (oneof_tree o) → OneofBreaks o x → SpotWithin n x
   oneof_breaks x o all (inl b) = at_spot n o.name.span.start _ x all.1.0 b.1
-  oneof_breaks x o all (inr b) = statements_break oneof_item_tree _ element.Oneof _ x oneof_settings
+  oneof_breaks x o all (inr b) = statements_break oneof_item_tree oneof_setting element.Oneof _ x (λ s w. grind arith)
       (listed (upto n) oneof_item_tree o.items all.1.1.1.0) b
-
-  message_settings : Gives (upto n) message_item_tree message_setting setting_tree
-  message_settings (message_item.Option o) all = ((subst (Within (upto n)) (item_option o) all).1.0, tt)
-  message_settings i all = tt
 
   pub body_breaks : (x : Spot) (is : List MessageItem) → EachIn (upto n) message_item_tree is → BodyBreaks is x
       → SpotWithin n x
   body_breaks x is all (inl (inl b)) = field_numbers_break is x all b
   body_breaks x is all (inl (inr b)) =
-      statements_break message_item_tree _ element.Message _ x message_settings all b
-  body_breaks x is all (inr (inl (inl b))) =
-      parts_break message_item_tree _ declarator_of FieldOptionsBreak _ x message_fields
-      (optioned_breaks x) all b
-  body_breaks x is all (inr (inl (inr b))) =
-      parts_break message_item_tree _ oneof_tree OneofBreaks _ x (message_oneofs (upto n))
-      (oneof_breaks x) all b
-  body_breaks x is all (inr (inr b)) =
-      parts_break message_item_tree _ enum_tree EnumBreaks _ x (message_enums (upto n)) (enum_breaks x) all b
+      statements_break message_item_tree message_setting element.Message _ x (λ i w. grind (arith, item_option)) all b
+  body_breaks x is all (inr (inl (inl b))) = parts_break message_item_tree optioned_fields declarator_of
+      FieldOptionsBreak _ x message_fields (optioned_breaks x) all b
+  body_breaks x is all (inr (inl (inr b))) = parts_break message_item_tree message_oneof oneof_tree OneofBreaks _ x
+      (λ i w. grind (arith, item_oneof)) (oneof_breaks x) all b
+  body_breaks x is all (inr (inr b)) = parts_break message_item_tree message_enum enum_tree EnumBreaks _ x
+      (λ i w. grind (arith, item_enum)) (enum_breaks x) all b
 
   -- ---- services
 
-  rpc_settings : Gives (upto n) rpc_item_tree rpc_setting setting_tree
-  rpc_settings (rpc_item.Option o) all = (all.1.0, tt)
-  rpc_settings i all = tt
-
-  service_settings : Gives (upto n) service_item_tree service_setting setting_tree
-  service_settings (service_item.Option o) all = (all.1.0, tt)
-  service_settings i all = tt
-
-  body_items : (b : RpcBody) → Within (upto n) (rpc_body_tree b) → EachIn (upto n) rpc_item_tree (rpc_items b)
-  body_items (rpc_body.Semicolon s) all = tt
-  body_items (rpc_body.Block b) all = listed (upto n) rpc_item_tree b.items all.1.0
-
   pub service_breaks : (x : Spot) (s : Service) → Within (upto n) (service_tree s) → ServiceBreaks s x → SpotWithin n x
   service_breaks x s all (inl b) =
-      statements_break service_item_tree _ element.Service _ x service_settings
+      statements_break service_item_tree service_setting element.Service _ x (λ s w. grind arith)
       (listed (upto n) service_item_tree s.items all.1.1.1.0) b
-  service_breaks x s all (inr b) =
-      parts_break service_item_tree _ rpc_tree RpcBreaks _ x (service_rpcs (upto n))
-      (λ r w t. statements_break rpc_item_tree _ element.Method _ x rpc_settings
-      (body_items r.body w.1.1.1.1.1) t)
+  service_breaks x s all (inr b) = parts_break service_item_tree service_rpc rpc_tree RpcBreaks _ x (λ s w. grind arith)
+      (λ r w. statements_break rpc_item_tree rpc_setting element.Method (rpc_items r.body) x (λ s w. grind arith)
+      (let w : Within (upto n) (rpc_body_tree r.body) = w.1.1.1.1.1 in grind (arith, listed)))
       (listed (upto n) service_item_tree s.items all.1.1.1.0) b
