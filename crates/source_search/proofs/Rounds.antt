@@ -1,4 +1,6 @@
 -- Rounds of a search, and its end.
+use Rattle.std.specs.Prelude.{◌↔◌}
+use Rattle.share_work.proofs.Sums.{in_map}
 use Rattle.std.proofs.Common.{◌≡◌, ◌∙◌, sym, ap, refl, subst, ℕ, ◌≤◌, All, List, [], ◌∷◌, map, length, take, drop, Bool, true, Some, None, Vec, Global, arith}
 use Rattle.std.specs.Prelude.{String, IfSome, flat_map}
 use Rattle.std.specs.List.{AllZip, Contains}
@@ -25,104 +27,59 @@ Lists = List (Vec (String Global) Global)
 abbrev Holds : Limits → (List ℕ → Type 0) → NamedText → Type 0
 Holds limits P source = (name : List ℕ) → Imports limits source.text.items name → IsBelow name → P name
 
-each_import : (limits : Limits) (P : List ℕ → Type 0) (sources : List NamedText) (lists : Lists)
+-- each of these holds of the sources together where it holds of what they import
+imports_each : (limits : Limits) (P : List ℕ → Type 0) (sources : List NamedText) (lists : Lists)
     → AllZip (SourceImports limits) sources lists
-    → All (Holds limits P) sources → All P (flat_map texts_in lists)
-each_import limits P [] [] zip each = All-nil P
-each_import limits P [] (l ∷ lists) zip each = absurd zip
-each_import limits P (s ∷ sources) [] zip each = absurd zip
-each_import limits P (s ∷ sources) (l ∷ lists) zip each =
-    All-append P (texts_in l) (flat_map texts_in lists)
-    (all_of P (texts_in l) (λ name there. All-head (Holds limits P) s sources each name ((zip.0 name).0 there).0
-    ((zip.0 name).0 there).1))
-    (each_import limits P sources lists zip.1 (All-tail (Holds limits P) s sources each))
-
-import_each : (limits : Limits) (P : List ℕ → Type 0) (sources : List NamedText) (lists : Lists)
-    → AllZip (SourceImports limits) sources lists
-    → All P (flat_map texts_in lists) → All (Holds limits P) sources
-import_each limits P [] [] zip all = All-nil (Holds limits P)
-import_each limits P [] (l ∷ lists) zip all = absurd zip
-import_each limits P (s ∷ sources) [] zip all = absurd zip
-import_each limits P (s ∷ sources) (l ∷ lists) zip all =
-    All-cons (Holds limits P) s sources
-    (λ name imports below. All-contains P (texts_in l) name (all_left P (texts_in l) (flat_map texts_in lists) all)
-    ((zip.0 name).1 (imports, below)))
-    (import_each limits P sources lists zip.1 (all_right P (texts_in l) (flat_map texts_in lists) all))
-
--- what some sources of a search import is worth a look-up
-worth_all : (limits : Limits) (known : Known) (given : List Named) (search : Search) (sources : List NamedText)
-    (lists : Lists) (done : ℕ)
-    → sources ≡ drop done search.sources.items → AllZip (SourceImports limits) sources lists
-    → IsSearch limits known given search
-    → All (IsWorth limits known given) (flat_map texts_in lists)
-worth_all limits known given search sources lists done some zip s =
-    each_import limits (IsWorth limits known given) sources lists zip
-    (all_of (Holds limits (IsWorth limits known given)) sources
-    (λ source there name imports below lookup at. (
-      name_of source,
-      source.text.items,
-      wanted source there lookup at,
-      imports,
-      below,
-    )))
-  where
-    wanted : (source : NamedText) → Contains sources source → (lookup : Lookup) → known ≡ Some lookup
-        → IsWanted limits lookup given (name_of source) source.text.items
-    wanted source there lookup at =
-        let all : All (λ one. IsWanted limits lookup given (named_bytes one).0 (named_bytes one).1) search.sources.items
-        =
-        unmapped named_bytes (λ (one : Named). IsWanted limits lookup given one.0 one.1) search.sources.items
-        (s.wanted lookup at) in
-        All-contains (λ one. IsWanted limits lookup given (name_of one) one.text.items)
-        (drop done search.sources.items) source
-        (All-drop (λ one. IsWanted limits lookup given (name_of one) one.text.items) done search.sources.items all)
-        (subst (λ (texts : List NamedText). Contains texts source) some there)
+    → All (Holds limits P) sources ↔ All P (flat_map texts_in lists)
+imports_each limits P [] [] zip = (λ each. All-nil P, λ all. All-nil (Holds limits P))
+imports_each limits P [] (l ∷ lists) zip = absurd zip
+imports_each limits P (s ∷ sources) [] zip = absurd zip
+imports_each limits P (s ∷ sources) (l ∷ lists) zip =
+    let rest = imports_each limits P sources lists zip.1 in (
+      λ each. All-append P (texts_in l) (flat_map texts_in lists)
+          (all_of P (texts_in l) (λ name there. let both = (zip.0 name).0 there in
+          All-head (Holds limits P) s sources each name both.0 both.1))
+          (rest.0 (All-tail (Holds limits P) s sources each)),
+      λ all. All-cons (Holds limits P) s sources
+          (λ name imports below. All-contains P (texts_in l) name (all_left P (texts_in l) (flat_map texts_in lists) all)
+          ((zip.0 name).1 (imports, below)))
+          (rest.1 (all_right P (texts_in l) (flat_map texts_in lists) all)),
+    )
 
 -- a round: what the sources behind the first ones import was asked for
-pub round_searched : (limits : Limits) (known : Known) (old new : Search) (sources : List NamedText) (lists : Lists)
-    (done : ℕ)
-    → sources ≡ drop done old.sources.items → AllZip (SourceImports limits) sources lists
-    → AsksFor limits known (flat_map texts_in lists) old new
-    → (given : List Named) → IsSearch limits known given old → IsSearch limits known given new
-round_searched limits known old new sources lists done some zip asks given s =
-    asks.searched given (worth_all limits known given old sources lists done some zip s) s
+module _ (limits : Limits) (known : Known) (old new : Search) (sources : List NamedText) (lists : Lists) (done : ℕ)
+    (some : sources ≡ drop done old.sources.items) (zip : AllZip (SourceImports limits) sources lists)
+    (asks : AsksFor limits known (flat_map texts_in lists) old new) where
+  pub round_searched : (given : List Named) → IsSearch limits known given old → IsSearch limits known given new
+  round_searched given s = asks.searched given ((imports_each limits (IsWorth limits known given) sources lists zip).0
+      (subst (All (Holds limits (IsWorth limits known given))) (sym some)
+      (All-drop (Holds limits (IsWorth limits known given)) done old.sources.items
+      (all_of (Holds limits (IsWorth limits known given)) old.sources.items
+      (λ source there name imports below lookup at. (
+        name_of source,
+        source.text.items,
+        All-contains (λ (one : Named). IsWanted limits lookup given one.0 one.1) (sources_of old) (named_bytes source)
+            (s.wanted lookup at) (in_map named_bytes old.sources.items source there),
+        imports,
+        below,
+      )))))) s
 
-still_closed : (limits : Limits) (known : Known) (names : List (List ℕ)) (old new : Search)
-    → AsksFor limits known names old new
-    → (sources : List Named) → All (IsClosed limits (is_asked old)) sources
-    → All (IsClosed limits (is_asked new)) sources
-still_closed limits known names old new asks = All-weaker (IsClosed limits (is_asked old))
-    (IsClosed limits (is_asked new))
-    (λ source closed name imports below. asks.still name (closed name imports below))
-
-pub round_closed : (limits : Limits) (known : Known) (old new : Search) (sources : List NamedText) (lists : Lists)
-    (done count : ℕ)
-    → sources ≡ drop done old.sources.items → AllZip (SourceImports limits) sources lists
-    → AsksFor limits known (flat_map texts_in lists) old new
-    → count ≡ length old.sources.items → All (IsClosed limits (is_asked old)) (take done (sources_of old))
-    → All (IsClosed limits (is_asked new)) (take count (sources_of new))
-round_closed limits known old new sources lists done count some zip asks all front =
-    let len : count ≡ length (sources_of old) = all ∙ sym (length-map old.sources.items named_bytes) in
-    let cut : take count (sources_of new) ≡ sources_of old =
-    ap (take count) asks.grown ∙ take-append-le count (sources_of old) asks.more (omega (arith, len))
-    ∙ take_all count (sources_of old) (omega (arith, len)) in
-    let behind : All (IsClosed limits (is_asked new)) (map named_bytes (drop done old.sources.items)) =
-    subst (λ (texts : List NamedText). All (IsClosed limits (is_asked new)) (map named_bytes texts)) some
-    (All-map (IsClosed limits (is_asked new)) named_bytes sources
-    (import_each limits (λ name. is_asked new name ≡ true) sources lists zip asks.asked)) in
-    subst (λ some. All (IsClosed limits (is_asked new)) some) (sym cut)
-    (all_halves (IsClosed limits (is_asked new)) done (sources_of old)
-    (still_closed limits known (flat_map texts_in lists) old new asks (take done (sources_of old)) front)
-    (subst (λ some. All (IsClosed limits (is_asked new)) some)
-    (sym (drop-map named_bytes done old.sources.items)) behind))
-
--- all of them
-pub closed_whole : (limits : Limits) (search : Search) (done : ℕ) → length search.sources.items ≤ done
-    → All (IsClosed limits (is_asked search)) (take done (sources_of search))
-    → All (IsClosed limits (is_asked search)) (sources_of search)
-closed_whole limits search done past all =
-    subst (λ some. All (IsClosed limits (is_asked search)) some)
-    (take_all done (sources_of search) (omega (arith, past, length-map search.sources.items named_bytes))) all
+  pub round_closed : (count : ℕ) → count ≡ length old.sources.items
+      → All (IsClosed limits (is_asked old)) (take done (sources_of old))
+      → All (IsClosed limits (is_asked new)) (take count (sources_of new))
+  round_closed count all front =
+      let len : count ≡ length (sources_of old) = all ∙ sym (length-map old.sources.items named_bytes) in
+      let cut : take count (sources_of new) ≡ sources_of old =
+      ap (take count) asks.grown ∙ take-append-le count (sources_of old) asks.more (omega (arith, len))
+      ∙ take_all count (sources_of old) (omega (arith, len)) in
+      let closed = IsClosed limits (is_asked new) in
+      let behind : All closed (map named_bytes sources) = All-map closed named_bytes sources
+      ((imports_each limits (λ name. is_asked new name ≡ true) sources lists zip).1 asks.asked) in
+      subst (All closed) (sym cut)
+      (all_halves closed done (sources_of old)
+      (All-weaker (IsClosed limits (is_asked old)) closed
+      (λ source closed name imports below. asks.still name (closed name imports below)) _ front)
+      (subst (All closed) (ap (map named_bytes) some ∙ sym (drop-map named_bytes done old.sources.items)) behind))
 
 -- ---- the end
 
@@ -139,31 +96,26 @@ wanted_held limits known lookup at given sources asked s closed _ _
     s.found lookup at name text (All-contains (IsClosed limits asked) sources
     (importer, its_text) closed origin name imports below) free has
 
-pub all_wanted : (limits : Limits) (known : Known) (lookup : Lookup) → known ≡ Some lookup
-    → (given : List Named) (search : Search)
-    → IsSearch limits known given search → All (IsClosed limits (is_asked search)) (sources_of search)
-    → (sources : List NamedText)
-    → IsPermutation search.sources.items sources → AreWanted limits lookup given (map named_bytes sources)
-all_wanted limits known lookup at given search s closed sources moved name text =
-    let same : IsPermutation (sources_of search) (map named_bytes sources) = IsPermutation-map named_bytes
-    search.sources.items sources moved in (
-      λ there. All-contains (λ (source : Named). IsWanted limits lookup given source.0 source.1) (sources_of search)
-          (name, text) (s.wanted lookup at)
-          (Contains-permutation (map named_bytes sources) (sources_of search) (name, text)
-          (IsPermutation-sym (sources_of search) (map named_bytes sources) same) there),
-      λ wanted. Contains-permutation (sources_of search) (map named_bytes sources) (name, text) same
-          (wanted_held limits known lookup at given (sources_of search) (is_asked search) s closed name text wanted),
-    )
+module _ (limits : Limits) (known : Known) (given : List Named) (search : Search)
+    (s : IsSearch limits known given search) (sources : List NamedText)
+    (moved : IsPermutation search.sources.items sources) where
+  same : IsPermutation (sources_of search) (map named_bytes sources)
+  same = IsPermutation-map named_bytes search.sources.items sources moved
 
-pub given_held : (limits : Limits) (known : Known) (given : List Named) (search : Search)
-    → IsSearch limits known given search
-    → (sources : List NamedText) → IsPermutation search.sources.items sources
-    → All (Contains (map named_bytes sources)) given
-given_held limits known given search s sources moved =
-    All-weaker (Contains (sources_of search)) (Contains (map named_bytes sources))
-    (λ source. Contains-permutation (sources_of search) (map named_bytes sources) source
-    (IsPermutation-map named_bytes search.sources.items sources moved))
-    given s.given_in
+  pub all_wanted : (lookup : Lookup) → known ≡ Some lookup
+      → All (IsClosed limits (is_asked search)) (sources_of search)
+      → AreWanted limits lookup given (map named_bytes sources)
+  all_wanted lookup at closed name text = (
+    λ there. All-contains (λ (source : Named). IsWanted limits lookup given source.0 source.1) (sources_of search)
+        (name, text) (s.wanted lookup at)
+        (Contains-permutation _ _ (name, text) (IsPermutation-sym _ _ same) there),
+    λ wanted. Contains-permutation _ _ (name, text) same
+        (wanted_held limits known lookup at given (sources_of search) (is_asked search) s closed name text wanted),
+  )
+
+  pub given_held : All (Contains (map named_bytes sources)) given
+  given_held = All-weaker (Contains (sources_of search)) (Contains (map named_bytes sources))
+      (λ source. Contains-permutation _ _ source same) given s.given_in
 
 -- where the shelf is known
 pub if_known : (known : Known) (P : Lookup → Type 0) → ((lookup : Lookup) → known ≡ Some lookup → P lookup)

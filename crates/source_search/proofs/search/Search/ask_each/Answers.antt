@@ -1,13 +1,12 @@
-use Rattle.std.proofs.Common.{[], ◌∷◌, List, ℕ, arith, subst}
-use Rattle.source_search.specs.Searching.{AsksFor}
-use Rattle.source_search.proofs.Asking.{each_next}
+use Rattle.std.proofs.Common.{[], ◌∷◌, arith, map, take}
+use Rattle.std.specs.Prelude.{string_bytes}
+use Rattle.std.proofs.lemmas.Grind.{common_steps}
+use Rattle.std.proofs.lemmas.List.{map-append, take_more}
+use Rattle.source_search.proofs.Asking.{asks_more}
 use Rattle.source_search.proofs.search.Search.ask_each.Goals as goal
 
 pub loop-name-preserved : goal.loop-name-preserved
 loop-name-preserved g c =
-    let known = g.S.Shelf.texts c.args.shelf.now in
-    each_next c.args.limits.now known c.args.names.now c.loop-name.name-index c.name-item.result c.args.self.now
-    c.loop-name.self c.ask.new.self
-    (omega arith) c.name-item.is c.loop-name.invariant
-    (subst (λ (name : List ℕ). AsksFor c.args.limits.now known (name ∷ []) c.loop-name.self c.ask.new.self)
-    c.as_str.ensures.value c.in_ok-ask.ensures)
+    asks_more _ _ (map string_bytes (take c.loop-name.name-index c.args.names.now)) (string_bytes c.name-item.result ∷ [])
+    _ c.loop-name.self _ (grind (arith, common_steps, take_more, map-append)) c.loop-name.invariant
+    (rw c.as_str.ensures.value at c.in_ok-ask.ensures)

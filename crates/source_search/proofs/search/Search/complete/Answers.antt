@@ -1,8 +1,10 @@
-use Rattle.std.proofs.Common.{◌≡◌, ◌∙◌, ◌-◌, List, ap, arith, drop, length, length-drop, subst, take, take_all}
+use Rattle.std.proofs.lemmas.List.{length-map}
+use Rattle.std.proofs.Common.{◌≡◌, ◌∙◌, ◌-◌, List, ap, arith, drop, length, length-drop, take, take_all}
 use Rattle.std.specs.Prelude.{flat_map}
 use Rattle.source_folder.specs.declared.folder.NamedText.{NamedText}
-use Rattle.source_search.specs.Searching.{AsksFor, texts_in}
-use Rattle.source_search.proofs.Rounds.{Lists, closed_whole, round_closed, round_searched}
+use Rattle.source_search.specs.Searching.{AsksFor, sources_of, texts_in}
+use Rattle.source_search.specs.Wanted.{named_bytes}
+use Rattle.source_search.proofs.Rounds.{Lists, round_closed, round_searched}
 use Rattle.source_search.proofs.search.Search.complete.Goals as goal
 
 pub loop-done-preserved : goal.loop-done-preserved
@@ -19,18 +21,21 @@ loop-done-preserved g c =
     take_all (length texts - done) (drop done texts) (omega (arith, length-drop done texts))
     ∙ ap (drop done) c.deref.ensures.value in
     let asks : AsksFor limits known (flat_map texts_in lists) old new =
-    subst (λ (names : Lists). AsksFor limits known (flat_map texts_in names) old new) c.deref-in-loop-done.ensures.value
-    c.in_ok-ask_all.ensures in
-    let all : c.len-count.result ≡ length old.sources.items = omega (arith, c.len-count.ensures, old.sources.ok) in
+    rw c.deref-in-loop-done.ensures.value at c.in_ok-ask_all.ensures in
     record {
       searched = λ given s. round_searched limits known old new sources lists done some c.in_ok-lists.ensures asks given
           (c.loop-done.invariant.searched given s);
-      closed = round_closed limits known old new sources lists done c.len-count.result some c.in_ok-lists.ensures asks
-          all
-          c.loop-done.invariant.closed;
+      closed = round_closed limits known old new sources lists done some c.in_ok-lists.ensures asks c.len-count.result
+          (omega (arith, c.len-count.ensures, old.sources.ok)) c.loop-done.invariant.closed;
     }
 
 pub returns-clause-closed : goal.returns-clause-closed
 returns-clause-closed g c =
-    closed_whole c.args.limits.now c.loop-done.self c.loop-done.done
-    (omega (arith, c.len.ensures, c.loop-done-test.false, c.loop-done.self.sources.ok)) c.loop-done.invariant.closed
+    let sources = c.loop-done.self.sources in
+    rw (take_all c.loop-done.done (sources_of c.loop-done.self) (omega (
+      arith,
+      c.len.ensures,
+      c.loop-done-test.false,
+      sources.ok,
+      length-map sources.items named_bytes,
+    ))) at c.loop-done.invariant.closed
