@@ -1,6 +1,6 @@
 -- Names that are asked for, one after the other.
-use Rattle.std.proofs.Common.{arith, ◌≡◌, ◌∙◌, sym, ap, refl, subst, ℕ, All, List, [], ◌∷◌, ◌++◌, length, map, take, get_or, ◌+◌, ◌<◌, Bool, true, false, ◌⊎◌, inl, inr, Option, Some, None, Vec, Global}
-use Rattle.std.specs.Prelude.{String, string_bytes, flat_map, if◌then◌else◌}
+use Rattle.std.proofs.Common.{arith, ◌≡◌, ◌∙◌, sym, ap, refl, subst, ℕ, List, [], ◌∷◌, ◌++◌, map, Bool, true, false, ◌⊎◌, inl, inr, Option, Some, None, Vec, Global}
+use Rattle.std.specs.Prelude.{String, string_bytes, if◌then◌else◌}
 use Rattle.std.specs.BTreeSet as sorted
 use Rattle.std.specs.BTreeSet.{BTreeSet, contains_text}
 use Rattle.std.specs.Cmp.Lexicographic.{slice_cmp}
@@ -11,18 +11,15 @@ use Rattle.std.specs.Str.{bytes_eq}
 use Rattle.std.specs.String.{string_cmp}
 use Rattle.std.proofs.lemmas.Bool.{cases_Bool, false_from_ne_true}
 use Rattle.std.proofs.lemmas.Cmp.{nat_list_eq_equiv}
-use Rattle.std.proofs.lemmas.Grind.{flat_map-append}
-use Rattle.std.proofs.lemmas.List.{append-nil, append_assoc, map-append, take_more}
-use Rattle.std.proofs.lemmas.List.Elements.{All-append, All-contains, All-cons, All-head, All-map, All-nil, All-push, All-weaker, Contains-append_left, Contains-push}
+use Rattle.std.proofs.lemmas.List.{append-nil, append_assoc, map-append}
+use Rattle.std.proofs.lemmas.List.Elements.{All-append, All-contains, All-map, All-push, All-weaker, Contains-append_left, Contains-push}
 use Rattle.std.proofs.lemmas.Map.Keys.{IsDistinct-push}
 use Rattle.std.proofs.lemmas.Map.Text.{btree_set_updates_text}
 use Rattle.std.proofs.lemmas.Option.{none-some, same_Some}
 use Rattle.proto_base.specs.declared.limits.Limits.{Limits}
-use Rattle.source_folder.specs.Folder.{name_of}
-use Rattle.source_folder.specs.declared.folder.NamedText.{NamedText}
-use Rattle.source_search.specs.Searching.{AsksFor, IsSearched, IsWorth, Keeps, found_under, is_asked, sources_of, texts_in}
+use Rattle.source_search.specs.Searching.{AsksFor, IsSearched, IsWorth, found_under, is_asked, sources_of}
 use Rattle.source_search.specs.Shelves.{IsFoundOn, Known, Lookup, bytes_in}
-use Rattle.source_search.specs.Wanted.{IsWanted, Named, is_imported, name_in, named_bytes}
+use Rattle.source_search.specs.Wanted.{IsWanted, Named, is_imported, name_in}
 use Rattle.source_search.specs.declared.search.Search.{Search}
 use Rattle.source_search.proofs.Lists.{all_left, all_right}
 use Rattle.source_search.proofs.Naming.{bytes_same, same_bytes}
@@ -37,26 +34,6 @@ put_name name key old new same updates = btree_set_updates_text name old new tru
     (subst (λ (bs : List ℕ). sorted.UpdatesBy string_cmp (λ k. slice_cmp nat_cmp bs (string_bytes k)) old new true) same
     updates)
 
--- nothing is kept, or a source
-pub keeps_none : (name : List ℕ) (old new : Search)
-    → ((other : List ℕ) → is_asked new other ≡ (if bytes_eq name other then true else is_asked old other))
-    → new.sources.items ≡ old.sources.items → Keeps name None old new
-keeps_none name old new asked same = record {
-  asked = asked;
-  sources = ap (map named_bytes) same ∙ sym (append-nil (sources_of old));
-}
-
-pub keeps_some : (name : List ℕ) (text : Vec ℕ Global) (source : NamedText) (old new : Search)
-    → ((other : List ℕ) → is_asked new other ≡ (if bytes_eq name other then true else is_asked old other))
-    → name_of source ≡ name
-    → source.text.items ≡ text.items → new.sources.items ≡ old.sources.items ++ source ∷ []
-    → Keeps name (Some text) old new
-keeps_some name text source old new asked named held more = record {
-  asked = asked;
-  sources = ap (map named_bytes) more ∙ map-append named_bytes old.sources.items (source ∷ [])
-      ∙ (λ i. sources_of old ++ (named i, held i) ∷ []);
-}
-
 found_at : (known : Known) (lookup : Lookup) (name : List ℕ) (found : Option (Vec ℕ Global)) → known ≡ Some lookup
     → IsFoundOn known name found
     → option_map bytes_in found ≡ lookup name
@@ -66,10 +43,10 @@ found_at known lookup name found is on = subst (λ (k : Known). IsFoundOn k name
 
 module _ (name : List ℕ) (asked later : List ℕ → Bool)
     (is : (other : List ℕ) → later other ≡ (if bytes_eq name other then true else asked other)) where
-  still_asked : (other : List ℕ) → asked other ≡ true → later other ≡ true
+  pub still_asked : (other : List ℕ) → asked other ≡ true → later other ≡ true
   still_asked other h = grind (arith, is other)
 
-  now_asked : later name ≡ true
+  pub now_asked : later name ≡ true
   now_asked = grind (arith, is name, bytes_same name name refl)
 
   asked_cases : (other : List ℕ) → later other ≡ true → (name ≡ other) ⊎ (asked other ≡ true)
@@ -79,7 +56,7 @@ module _ (name : List ℕ) (asked later : List ℕ → Bool)
   ]
 
   -- what was found under the name, if anything, joins the sources
-  found_more : (limits : Limits) (known : Known) (given sources : List Named) (found : Option (Vec ℕ Global))
+  pub found_more : (limits : Limits) (known : Known) (given sources : List Named) (found : Option (Vec ℕ Global))
       → asked name ≡ false → IsFoundOn known name found
       → IsWorth limits known given name → IsSearched limits known given sources asked
       → IsSearched limits known given (sources ++ found_under name found) later
@@ -128,32 +105,6 @@ module _ (name : List ℕ) (asked later : List ℕ → Bool)
           let h = All-contains (λ (source : Named). asked source.0 ≡ true) sources source s.asked_for
           (All-contains (Contains sources) given source s.given_in at) in
           cc
-
--- a name that was not asked for before
-pub asks_new : (limits : Limits) (known : Known) (name : List ℕ) (found : Option (Vec ℕ Global)) (old new : Search)
-    → is_asked old name ≡ false
-    → IsFoundOn known name found → Keeps name found old new → AsksFor limits known (name ∷ []) old new
-asks_new limits known name found old new fresh on keeps = record {
-  more = found_under name found;
-  grown = keeps.sources;
-  still = still_asked name (is_asked old) (is_asked new) keeps.asked;
-  asked = All-cons (λ n. is_asked new n ≡ true) name [] (now_asked name (is_asked old) (is_asked new) keeps.asked)
-      (All-nil (λ n. is_asked new n ≡ true));
-  searched = λ given worth s. subst (λ some. IsSearched limits known given some (is_asked new)) (sym keeps.sources)
-      (found_more name (is_asked old) (is_asked new) keeps.asked limits known given (sources_of old) found fresh on
-      (All-head (IsWorth limits known given) name [] worth) s);
-}
-
--- a name that was asked for before
-pub asks_known : (limits : Limits) (known : Known) (name : List ℕ) (search : Search) → is_asked search name ≡ true
-    → AsksFor limits known (name ∷ []) search search
-asks_known limits known name search before = record {
-  more = [];
-  grown = sym (append-nil (sources_of search));
-  still = λ other h. h;
-  asked = All-cons (λ n. is_asked search n ≡ true) name [] before (All-nil (λ n. is_asked search n ≡ true));
-  searched = λ given worth s. s;
-}
 
 -- some names and then others
 pub asks_more : (limits : Limits) (known : Known) {names : List (List ℕ)} (front back : List (List ℕ))

@@ -1,5 +1,5 @@
 -- What a text imports.
-use Rattle.std.proofs.Common.{◌≡◌, sym, subst, ℕ, List, [], map, true, arith}
+use Rattle.std.proofs.Common.{◌≡◌, sym, subst, ℕ, List, [], map, arith}
 use Rattle.std.specs.Prelude.{flat_map, filter}
 use Rattle.std.specs.List.{Contains}
 use Rattle.proto_base.specs.Limits.{limit_of}
@@ -19,55 +19,35 @@ use Rattle.source_folder.specs.Paths.{is_below}
 use Rattle.source_search.specs.Imports.{AreImportsOf, imported, path_of}
 use Rattle.share_work.proofs.Sums.{in_filter, of_filter}
 
--- ---- the imports of a file's statements
-
 -- the paths that statements import, as far as they can be paths below a folder
 abbrev pub below_of : List Statement → List (List ℕ)
 below_of ss = filter is_below (map path_of (flat_map import_of ss))
-
--- ---- the imports of a text
 
 -- a text that is no file imports nothing
 pub no_imports : (limits : Limits) (text : List ℕ) → ((file : FileTree) → IsFile limits text file → ⊥)
     → AreImportsOf limits text []
 no_imports limits text none name = (λ there. absurd (omega (arith, there.1)), λ both. absurd (none both.0.0 both.0.1))
 
--- nor does one without tokens
-pub no_tokens : (limits : Limits) (text : List ℕ) → ((ts : List Spelled)
-    → IsTokenList (limit_of limits limit.FileBytes) text ts → ⊥)
-    → AreImportsOf limits text []
-no_tokens limits text none = no_imports limits text (λ file is. none is.0 is.1)
+-- a text that these tokens alone spell
+module _ (limits : Limits) (text : List ℕ) (tokens : List Spelled)
+    (only : (ts : List Spelled) → IsTokenList (limit_of limits limit.FileBytes) text ts → tokens ≡ ts) where
+  of_tokens : (file : FileTree) → IsFile limits text file
+      → IsTreeOf (limit_of limits limit.Depth) tokens (file_tree file)
+  of_tokens file is =
+      subst (λ ts. IsTreeOf (limit_of limits limit.Depth) ts (file_tree file)) (sym (only is.0 is.1)) is.2
 
--- the tree of a file is one of the tokens that a text spells
-of_tokens : (limits : Limits) (text : List ℕ) (tokens : List Spelled)
-    → ((ts : List Spelled) → IsTokenList (limit_of limits limit.FileBytes) text ts → tokens ≡ ts)
-    → (file : FileTree) → IsFile limits text file → IsTreeOf (limit_of limits limit.Depth) tokens (file_tree file)
-of_tokens limits text tokens only file is =
-    subst (λ ts. IsTreeOf (limit_of limits limit.Depth) ts (file_tree file)) (sym (only is.0 is.1)) is.2
+  pub no_tree : ((x : Tree) → IsTreeOf (limit_of limits limit.Depth) tokens x → ⊥) → AreImportsOf limits text []
+  no_tree none = no_imports limits text (λ file is. none (file_tree file) (of_tokens file is))
 
--- nor does one whose tokens have no tree
-pub no_tree : (limits : Limits) (text : List ℕ) (tokens : List Spelled)
-    → ((ts : List Spelled) → IsTokenList (limit_of limits limit.FileBytes) text ts → tokens ≡ ts)
-    → ((x : Tree) → IsTreeOf (limit_of limits limit.Depth) tokens x → ⊥) → AreImportsOf limits text []
-no_tree limits text tokens only none = no_imports limits text
-    (λ file is. none (file_tree file) (of_tokens limits text tokens only file is))
-
--- a file imports what its statements say
-pub file_imports : (limits : Limits) (text : List ℕ) (tokens : List Spelled)
-    → IsTokenList (limit_of limits limit.FileBytes) text tokens
-    → ((ts : List Spelled) → IsTokenList (limit_of limits limit.FileBytes) text ts → tokens ≡ ts)
-    → (file : FileTree) → IsTreeOf (limit_of limits limit.Depth) tokens (file_tree file)
-    → ((x : Tree) → IsTreeOf (limit_of limits limit.Depth) tokens x → file_tree file ≡ x)
-    → (names : List (List ℕ)) → names ≡ filter is_below (imported file) → AreImportsOf limits text names
-file_imports limits text tokens spelled only file tree one names is name = (
-  λ there. let both = of_filter is_below (imported file) name (subst (λ ns. Contains ns name) is there) in
-      ((file, (tokens, spelled, tree), both.0), both.1),
-  λ both. subst (λ ns. Contains ns name) (sym is)
-      (keep (subst (λ f. Contains (imported f) name) (sym (same both.0.0 both.0.1)) both.0.2) both.1),
-)
-  where
-    same : (other : FileTree) → IsFile limits text other → file ≡ other
-    same other is' = same_file file other (one (file_tree other) (of_tokens limits text tokens only other is'))
-
-    keep : Contains (imported file) name → is_below name ≡ true → Contains (filter is_below (imported file)) name
-    keep = in_filter is_below (imported file) name
+  -- a file imports what its statements say
+  pub file_imports : IsTokenList (limit_of limits limit.FileBytes) text tokens
+      → (file : FileTree) → IsTreeOf (limit_of limits limit.Depth) tokens (file_tree file)
+      → ((x : Tree) → IsTreeOf (limit_of limits limit.Depth) tokens x → file_tree file ≡ x)
+      → (names : List (List ℕ)) → names ≡ filter is_below (imported file) → AreImportsOf limits text names
+  file_imports spelled file tree one names is name = rw is (
+    λ there. let both = of_filter is_below (imported file) name there in
+        ((file, (tokens, spelled, tree), both.0), both.1),
+    λ both. let other = both.0.0 in
+        let same = same_file file other (one (file_tree other) (of_tokens other both.0.1)) in
+        in_filter is_below (imported file) name (subst (λ f. Contains (imported f) name) (sym same) both.0.2) both.1,
+  )

@@ -9,8 +9,3 @@ all_left P xs ys all = all_of P xs (λ x there. All-contains P (xs ++ ys) x all 
 
 pub all_right : {X : Type 0} (P : X → Type 0) (xs ys : List X) → All P (xs ++ ys) → All P ys
 all_right P xs ys all = all_of P ys (λ x there. All-contains P (xs ++ ys) x all (Contains-append_right xs ys x there))
-
--- of the first n and of the others
-pub all_halves : {X : Type 0} (P : X → Type 0) (n : ℕ) (xs : List X) → All P (take n xs) → All P (drop n xs) → All P xs
-all_halves P n xs front back = subst (λ ys. All P ys) (take-append-drop n xs)
-    (All-append P (take n xs) (drop n xs) front back)

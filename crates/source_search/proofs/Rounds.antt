@@ -1,11 +1,11 @@
 -- Rounds of a search, and its end.
 use Rattle.std.specs.Prelude.{◌↔◌}
 use Rattle.share_work.proofs.Sums.{in_map}
-use Rattle.std.proofs.Common.{◌≡◌, ◌∙◌, sym, ap, refl, subst, ℕ, ◌≤◌, All, List, [], ◌∷◌, map, length, take, drop, Bool, true, Some, None, Vec, Global, arith}
+use Rattle.std.proofs.Common.{◌≡◌, ◌∙◌, sym, ap, refl, subst, ℕ, All, List, [], ◌∷◌, map, length, take, drop, Bool, true, Some, None, Vec, Global, arith}
 use Rattle.std.specs.Prelude.{String, IfSome, flat_map}
 use Rattle.std.specs.List.{AllZip, Contains}
 use Rattle.std.specs.List.Sorted.{IsPermutation}
-use Rattle.std.proofs.lemmas.List.{drop-map, length-map, take-append-le, take_all}
+use Rattle.std.proofs.lemmas.List.{drop-map, length-map, take-append-drop, take-append-le, take_all}
 use Rattle.std.proofs.lemmas.List.Elements.{All-append, All-contains, All-cons, All-drop, All-head, All-map, All-nil, All-tail, All-weaker}
 use Rattle.std.proofs.lemmas.List.Sorted.{Contains-permutation, IsPermutation-map, IsPermutation-sym}
 use Rattle.proto_base.specs.declared.limits.Limits.{Limits}
@@ -16,9 +16,8 @@ use Rattle.source_search.specs.Searching.{AsksFor, IsClosed, IsSearch, IsSearche
 use Rattle.source_search.specs.Shelves.{Known, Lookup}
 use Rattle.source_search.specs.Wanted.{AreWanted, IsWanted, Named, is_given, is_imported, named_bytes}
 use Rattle.source_search.specs.declared.search.Search.{Search}
-use Rattle.source_search.proofs.Lists.{all_halves, all_left, all_right}
+use Rattle.source_search.proofs.Lists.{all_left, all_right}
 use Rattle.share_work.proofs.Sums.{all_of}
-use Rattle.source_folder.proofs.Named.{unmapped}
 
 abbrev pub Lists : Type 0
 Lists = List (Vec (String Global) Global)
@@ -41,9 +40,9 @@ imports_each limits P (s ∷ sources) (l ∷ lists) zip =
           All-head (Holds limits P) s sources each name both.0 both.1))
           (rest.0 (All-tail (Holds limits P) s sources each)),
       λ all. All-cons (Holds limits P) s sources
-          (λ name imports below. All-contains P (texts_in l) name (all_left P (texts_in l) (flat_map texts_in lists) all)
+          (λ name imports below. All-contains P (texts_in l) name (all_left P (texts_in l) _ all)
           ((zip.0 name).1 (imports, below)))
-          (rest.1 (all_right P (texts_in l) (flat_map texts_in lists) all)),
+          (rest.1 (all_right P (texts_in l) _ all)),
     )
 
 -- a round: what the sources behind the first ones import was asked for
@@ -51,18 +50,14 @@ module _ (limits : Limits) (known : Known) (old new : Search) (sources : List Na
     (some : sources ≡ drop done old.sources.items) (zip : AllZip (SourceImports limits) sources lists)
     (asks : AsksFor limits known (flat_map texts_in lists) old new) where
   pub round_searched : (given : List Named) → IsSearch limits known given old → IsSearch limits known given new
-  round_searched given s = asks.searched given ((imports_each limits (IsWorth limits known given) sources lists zip).0
-      (subst (All (Holds limits (IsWorth limits known given))) (sym some)
-      (All-drop (Holds limits (IsWorth limits known given)) done old.sources.items
-      (all_of (Holds limits (IsWorth limits known given)) old.sources.items
-      (λ source there name imports below lookup at. (
-        name_of source,
-        source.text.items,
-        All-contains (λ (one : Named). IsWanted limits lookup given one.0 one.1) (sources_of old) (named_bytes source)
-            (s.wanted lookup at) (in_map named_bytes old.sources.items source there),
-        imports,
-        below,
-      )))))) s
+  round_searched given s =
+      let worth = Holds limits (IsWorth limits known given) in
+      let all = all_of worth old.sources.items (λ source there name imports below lookup at.
+      let wanted = All-contains (λ (one : Named). IsWanted limits lookup given one.0 one.1) (sources_of old)
+      (named_bytes source) (s.wanted lookup at) (in_map named_bytes old.sources.items source there) in
+      (name_of source, source.text.items, wanted, imports, below)) in
+      asks.searched given ((imports_each limits (IsWorth limits known given) sources lists zip).0
+      (subst (All worth) (sym some) (All-drop worth done old.sources.items all))) s
 
   pub round_closed : (count : ℕ) → count ≡ length old.sources.items
       → All (IsClosed limits (is_asked old)) (take done (sources_of old))
@@ -76,10 +71,10 @@ module _ (limits : Limits) (known : Known) (old new : Search) (sources : List Na
       let behind : All closed (map named_bytes sources) = All-map closed named_bytes sources
       ((imports_each limits (λ name. is_asked new name ≡ true) sources lists zip).1 asks.asked) in
       subst (All closed) (sym cut)
-      (all_halves closed done (sources_of old)
+      (subst (All closed) (take-append-drop done (sources_of old)) (All-append closed _ _
       (All-weaker (IsClosed limits (is_asked old)) closed
       (λ source closed name imports below. asks.still name (closed name imports below)) _ front)
-      (subst (All closed) (ap (map named_bytes) some ∙ sym (drop-map named_bytes done old.sources.items)) behind))
+      (subst (All closed) (ap (map named_bytes) some ∙ sym (drop-map named_bytes done old.sources.items)) behind)))
 
 -- ---- the end
 

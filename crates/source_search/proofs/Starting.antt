@@ -2,17 +2,12 @@
 use Rattle.std.proofs.lemmas.Cmp.{nat_list_eq_equiv}
 use Rattle.std.proofs.lemmas.List.{map_more}
 use Rattle.std.proofs.lemmas.Map.Views.{Contains-from_any, list_any-from_Contains}
-use Rattle.std.proofs.Common.{◌≡◌, ◌∙◌, sym, ap, refl, subst, ℕ, ◌+◌, ◌<◌, List, [], ◌∷◌, ◌++◌, length, map, take, get_or, Bool, true, false, arith}
-use Rattle.std.specs.Prelude.{◌||◌, if◌then◌else◌}
+use Rattle.std.proofs.Common.{◌≡◌, ◌∙◌, sym, ap, subst, ℕ, ◌+◌, ◌<◌, List, [], ◌∷◌, ◌++◌, length, map, take, get_or, Bool, true, arith}
+use Rattle.std.specs.Prelude.{if◌then◌else◌}
 use Rattle.std.specs.List.{Contains, IsDistinct, list_any}
 use Rattle.std.specs.Str.{bytes_eq}
-use Rattle.std.proofs.lemmas.Bool.{false≢true}
-use Rattle.std.proofs.lemmas.List.{map-append, take_more}
-use Rattle.std.proofs.lemmas.List.Elements.{All-contains_itself, All-map, Contains-append_right}
+use Rattle.std.proofs.lemmas.List.Elements.{All-contains_itself, All-map}
 use Rattle.std.proofs.lemmas.List.Folds.{list_any-append}
-use Rattle.std.proofs.lemmas.Map.Keys.{any_passes_from_place}
-use Rattle.std.proofs.lemmas.Option.{slice_get_read}
-use Rattle.std.proofs.Math.Bool.{or-false}
 use Rattle.proto_base.specs.declared.limits.Limits.{Limits}
 use Rattle.source_folder.specs.Folder.{name_of, names_of}
 use Rattle.proto_base.specs.NameOrder.{NamesRise}
@@ -20,8 +15,7 @@ use Rattle.source_folder.specs.declared.folder.NamedText.{NamedText}
 use Rattle.source_search.specs.Searching.{IsSearched}
 use Rattle.source_search.specs.Shelves.{Known}
 use Rattle.source_search.specs.Wanted.{IsWanted, Named, is_given, named_bytes}
-use Rattle.source_search.proofs.Naming.{bytes_same, rising_differ, same_bytes, same_names}
-use Rattle.proto_lower.proofs.Free.{or_by}
+use Rattle.source_search.proofs.Naming.{rising_differ, same_bytes, same_names}
 use Rattle.share_work.proofs.Sums.{all_of}
 use Rattle.source_folder.proofs.Named.{unmapped}
 
@@ -39,12 +33,8 @@ among_more texts i x old new h is before now name =
     let names : names_of (take (i + 1) texts) ≡ names_of (take i texts) ++ name_of x ∷ [] =
     map_more name_of texts i x h ∙ ap (λ y. names_of (take i texts) ++ name_of y ∷ []) (sym is) in
     let flip = nat_list_eq_equiv.symm (name_of x) name in
-    rw names (grind (
-      arith,
-      now name,
-      before name,
-      list_any-append (bytes_eq name) (names_of (take i texts)) (name_of x ∷ []),
-    ))
+    let more = list_any-append (bytes_eq name) (names_of (take i texts)) (name_of x ∷ []) in
+    rw names (grind (arith, now name, before name))
 
 pub started : (limits : Limits) (known : Known) (given : List NamedText) (asked : List ℕ → Bool)
     → NamesRise (names_of given)

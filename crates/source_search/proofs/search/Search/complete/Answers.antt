@@ -32,10 +32,6 @@ loop-done-preserved g c =
 pub returns-clause-closed : goal.returns-clause-closed
 returns-clause-closed g c =
     let sources = c.loop-done.self.sources in
-    rw (take_all c.loop-done.done (sources_of c.loop-done.self) (omega (
-      arith,
-      c.len.ensures,
-      c.loop-done-test.false,
-      sources.ok,
-      length-map sources.items named_bytes,
-    ))) at c.loop-done.invariant.closed
+    let len = length-map sources.items named_bytes in
+    rw (take_all c.loop-done.done (sources_of c.loop-done.self) (omega (arith, c.len.ensures, sources.ok)))
+    at c.loop-done.invariant.closed
