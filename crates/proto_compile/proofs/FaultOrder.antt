@@ -68,7 +68,8 @@ later_spot pass f g s x y name most = grind (arith, then_not, itself, spots)
 pub same_later : (x y : SourceFault) → x ≡ y → IsNoLater x y
 same_later x y e =
     let here = spot x.place x.kind in
-    subst (IsNoLater x) e (later_spot x.pass x.file x.file x.step here here (same_name x.file) (inr (refl, omega arith)))
+    subst (IsNoLater x) e
+    (later_spot x.pass x.file x.file x.step here here (same_name x.file) (inr (refl, omega arith)))
 
 -- ---- two of which neither comes later are one
 

@@ -23,12 +23,9 @@ rest_after : (s : List ℕ) (from : ℕ) (ps : List Piece) (to : ℕ) → IsCutI
     → BeginWithin IsAfter (rest_of (tokens_from from ps))
 rest_after s from [] to cut = tt
 rest_after s from (p ∷ ps) to cut =
-    grind (
-      arith,
-      piece_nonempty _ p.len p.is cut.0,
-      rest_after s (from + p.len) ps to cut.1,
-      pieces_in IsAfter s (from + p.len) ps to (λ k low high. omega (arith, piece_nonempty _ p.len p.is cut.0, low)) cut.1,
-    )
+    let some : 0 < p.len = piece_nonempty _ p.len p.is cut.0 in
+    let later = pieces_in IsAfter s (from + p.len) ps to (λ k low high. omega (arith, some, low)) cut.1 in
+    grind (arith, rest_after s (from + p.len) ps to cut.1)
 
 pub places_after : (limits : Limits) (name text : List ℕ) (desc : FileDesc) → Describes limits name text desc
     → AreIn IsAfter (places_of desc)

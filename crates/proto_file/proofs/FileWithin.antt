@@ -23,8 +23,8 @@ use Rattle.proto_desc.specs.declared.oneof.OneofDesc.{OneofDesc}
 use Rattle.proto_desc.specs.declared.service.MethodDesc.{MethodDesc}
 use Rattle.proto_desc.specs.declared.service.ServiceDesc.{ServiceDesc}
 use Rattle.proto_file.specs.Places.{AllWithin}
-use Rattle.proto_file.proofs.PlacesWithin.{Within, rest, both, each_given, each_map, each_place, each_places, each_weaker, upto, EnumWithin, places_out, lowered_within, EachIn, by_items, by_nested, each_held, each_part, every, listed, split, IsOther}
-use Rattle.proto_checks.specs.Checks.{FileBreaks, HeadBreaks, ElementsBreak, NamesBreak, LengthsBreak, import_mark, IsTooLong, IsPartTooLong, PackageTooLong, parts_of, json_mark, field_mark, value_mark, EnumNamesBreak, MessageNames, MessageNamesBreak, names_of}
+use Rattle.proto_file.proofs.PlacesWithin.{Within, rest, both, each_given, each_map, each_place, each_places, each_weaker, upto, EnumWithin, places_out, lowered_within, EachIn, by_items, by_nested, each_held, each_part, listed, split, IsOther}
+use Rattle.proto_checks.specs.Checks.{FileBreaks, HeadBreaks, ElementsBreak, NamesBreak, LengthsBreak, import_mark, IsTooLong, PackageTooLong, json_mark, field_mark, value_mark, EnumNamesBreak, MessageNames, MessageNamesBreak, names_of}
 use Rattle.proto_checks.specs.Elements.{BodyBreaks, MessageBreaks, EnumBreaks, ServiceBreaks, bodies, bodies_of}
 use Rattle.proto_base.specs.declared.spot.Spot.{Spot}
 use Rattle.proto_checks.proofs.Items.{nested_bodies}
@@ -35,7 +35,6 @@ use Rattle.proto_file.proofs.Within.{enum_breaks, body_breaks, service_breaks, p
 use Rattle.proto_desc.specs.declared.message.MessageDesc.TheViews.{out-MessageDesc}
 use Rattle.proto_base.specs.declared.kind.Kind.TheVariants as kind
 use Rattle.proto_desc.specs.declared.rules.Element.TheVariants as element
-use Rattle.proto_tree.specs.declared.message.MessageItem as message_item
 use Rattle.proto_tree.specs.declared.message.MessageItem.TheVariants as of
 
 module _ (n : ℕ) where
@@ -55,8 +54,7 @@ module _ (n : ℕ) where
       (held (subst (Within (upto n)) (item_message m) all))
 
   other_bodies : (i : MessageItem) → IsOther i → ItemBodies i
-  other_bodies (message_item.Message' boxed rows) never all = absurd never
-  other_bodies i is all = tt
+  other_bodies i is all = grind arith
 
   bodies_step : (m : Message) → AllByRecursion ItemBodies m.items → MessageBodies m
   bodies_step m held all =
@@ -154,14 +152,6 @@ module _ (n : ℕ) where
 
   -- ---- files
 
-  package_long : (limits : Limits) (x : Spot) (p : Package) → Within (upto n) (package_tree p)
-      → PackageTooLong limits p x → SpotWithin n x
-  package_long limits x p all (inl b) =
-      each_within (λ part. Unit {0}) (IsPartTooLong limits p.name.first.span.start) n (parts_of p.name) x
-      (every (λ part. Unit {0}) (parts_of p.name) (λ part. tt))
-      (λ part u s. at_spot n p.name.first.span.start _ x all.1.0.0 s.1) b
-  package_long limits x p all (inr b) = at_spot n p.name.first.span.start _ x all.1.0.0 b.1
-
   -- what the descriptor's places give
   record DescPlaces (d : FileDesc) : Type 0 where
     imports : AllWithin n (map import_place d.imports)
@@ -226,7 +216,7 @@ module _ (n : ℕ) where
   lengths_break : (limits : Limits) (ss : List Statement) (d : FileDesc) (x : Spot)
       → EachIn (upto n) statement_tree ss → DescPlaces d → LengthsBreak limits ss d x → SpotWithin n x
   lengths_break limits ss d x all at (inl b) = parts_break n statement_tree file_package package_tree
-      (PackageTooLong limits) _ x (λ s w. grind arith) (package_long limits x) all b
+      (PackageTooLong limits) _ x (λ s w. grind arith) (λ p w c. grind arith) all b
   lengths_break limits ss d x all at (inr b) = each_within DeclaredAt (IsTooLong limits) n (declared_by d) x
       (declared_at d at) (λ d within s. at_spot n d.place _ x within s.1) b
 

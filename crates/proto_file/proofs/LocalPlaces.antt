@@ -54,10 +54,6 @@ tree_begins limits text file (ts, is, tree) =
     begun (upto (length text)) (file_tree file)
     (subst (BeginWithin (upto (length text))) (sym tree.tokens) (tokens_begin _ text ts is))
 
-file_short : (limits : Limits) (text : List ℕ) (file : FileTree) → IsFile limits text file
-    → length text ≤ limit_of limits limit.FileBytes
-file_short limits text file (ts, is, tree) = is.short
-
 -- ---- faults of tokens
 
 abbrev mark : List ℕ
@@ -94,8 +90,8 @@ pub record IsInside (limits : Limits) (text : List ℕ) (place : Place) : Type 0
 inside_file : (limits : Limits) (text : List ℕ) (file : FileTree) (place : Place) → IsFile limits text file
     → place.offset ≤ length text
     → IsInside limits text place
-inside_file limits text file place is within =
-    record { within = within; short = omega (arith, within, file_short limits text file is) }
+inside_file limits text file place (ts, is, tree) within =
+    record { within = within; short = omega (arith, within, is.short) }
 
 pub fault_inside : (limits : Limits) (name text : List ℕ) (f : FileFault) → IsLocalFault limits name text f
     → IsInside limits text f.spot.place

@@ -1,25 +1,23 @@
 -- The places of a descriptor are those of tokens: they lie within a text in which the tokens of the tree begin.
-use Rattle.std.proofs.Common.{◌≡◌, ◌∙◌, ap, sym, subst, arith, ℕ, ◌≤◌, Bool, false, cond, List, [], ◌∷◌, ◌++◌, map, ◌+◌}
+use Rattle.std.proofs.Common.{◌≡◌, sym, subst, arith, ℕ, ◌≤◌, Bool, false, cond, List, [], ◌∷◌, ◌++◌, map, ◌+◌}
 use Rattle.std.specs.Prelude.{flat_map, Option, None, Some, slice_get}
 use Rattle.std.specs.List.{AllByRecursion}
 use Rattle.std.proofs.lemmas.List.Folds.{flat_map-map}
 use Rattle.std.specs.Option.{option_to_list, option_map}
 use Rattle.proto_tokens.specs.Token.{Spelled}
 use Rattle.proto_base.specs.declared.place.Place.{Place}
-use Rattle.proto_base.specs.declared.place.Span.{Span}
 use Rattle.proto_syntax.specs.Grammar.{Tree, Pair, Left, Right, flatten, Empty, Leaf}
-use Rattle.proto_syntax.specs.Trees.{row, next_tree, optional, declarator_tree, setting_tree, separated_tree, options_tree, dotted_tree, type_tree, field_statement_tree, oneof_item_tree, map_tree, message_item_tree, enum_item_tree, enum_tree, message_tree, rpc_type_tree, rpc_tree, service_item_tree, service_tree, statement_tree, member_tree, package_tree}
+use Rattle.proto_syntax.specs.Trees.{row, next_tree, optional, declarator_tree, setting_tree, separated_tree, options_tree, type_tree, field_statement_tree, oneof_item_tree, map_tree, message_item_tree, enum_item_tree, enum_tree, message_tree, rpc_type_tree, rpc_tree, service_item_tree, service_tree, statement_tree, member_tree, package_tree}
 use Rattle.proto_tree.specs.declared.field.Declarator.{Declarator}
 use Rattle.proto_tree.specs.declared.field.FieldType.{FieldType}
 use Rattle.proto_tree.specs.declared.field.Label.{Label}
 use Rattle.proto_tree.specs.declared.list.Separated.{Separated}
-use Rattle.proto_tree.specs.declared.name.FullName.{FullName}
 use Rattle.proto_tree.specs.declared.option.Options.{Options}
 use Rattle.proto_tree.specs.declared.option.Setting.{Setting}
 use Rattle.proto_desc.specs.declared.options.OptionDesc.{OptionDesc}
 use Rattle.proto_desc.specs.declared.rules.Element.{Element}
 use Rattle.proto_desc.specs.declared.rules.ValueKind.{ValueKind}
-use Rattle.proto_lower.specs.Fields.{type_place, kind_of, described, label_of, is_optional, inner, member_at, fields_from, reference_of, real_count}
+use Rattle.proto_lower.specs.Fields.{kind_of, described, label_of, is_optional, inner, member_at, fields_from, reference_of, real_count}
 use Rattle.proto_options.specs.Options.{bracketed, first_setting}
 use Rattle.proto_tree.specs.Lists.{next_item, separated}
 use Rattle.proto_lower.specs.Options.{option_by, option_under, options_of}
@@ -35,7 +33,6 @@ use Rattle.proto_desc.specs.declared.type_name.TypeReference.TheVariants.{Resolv
 use Rattle.proto_lower.specs.Names.{entry_name_of}
 use Rattle.proto_tree.specs.declared.enumeration.Enum.{Enum}
 use Rattle.proto_tree.specs.declared.file.FileTree.{FileTree}
-use Rattle.proto_tree.specs.declared.file.Statement.{Statement}
 use Rattle.proto_tree.specs.declared.message.Message.{Message, roll-Message, ind-Message}
 use Rattle.proto_tree.specs.declared.message.MessageItem.{MessageItem, MessageItem-F, roll-MessageItem, map-MessageItem}
 use Rattle.proto_tree.specs.declared.oneof.OneofField.{OneofField}
@@ -89,14 +86,6 @@ Within region (Right x) = Within region x
 
 -- ---- lists
 
-pub prefix : {X : Type 0} (P : X → Type 0) (xs ys : List X) → AllByRecursion P (xs ++ ys) → AllByRecursion P xs
-prefix P [] ys all = tt
-prefix P (x ∷ xs) ys all = (all.0, prefix P xs ys all.1)
-
-pub rest : {X : Type 0} (P : X → Type 0) (xs ys : List X) → AllByRecursion P (xs ++ ys) → AllByRecursion P ys
-rest P [] ys all = all
-rest P (x ∷ xs) ys all = rest P xs ys all.1
-
 pub both : {X : Type 0} (P : X → Type 0) (xs ys : List X) → AllByRecursion P xs → AllByRecursion P ys
     → AllByRecursion P (xs ++ ys)
 both P [] ys left right = right
@@ -104,7 +93,11 @@ both P (x ∷ xs) ys left right = (left.0, both P xs ys left.1 right)
 
 pub split : {X : Type 0} (P : X → Type 0) (xs ys : List X) → AllByRecursion P (xs ++ ys)
     → AllByRecursion P xs × AllByRecursion P ys
-split P xs ys all = (prefix P xs ys all, rest P xs ys all)
+split P [] ys all = (tt, all)
+split P (x ∷ xs) ys all = let r = split P xs ys all.1 in ((all.0, r.0), r.1)
+
+pub rest : {X : Type 0} (P : X → Type 0) (xs ys : List X) → AllByRecursion P (xs ++ ys) → AllByRecursion P ys
+rest P xs ys all = (split P xs ys all).1
 
 pub every : {X : Type 0} (P : X → Type 0) (xs : List X) → ((x : X) → P x) → AllByRecursion P xs
 every P [] h = tt
@@ -121,15 +114,14 @@ pub each_map : {A B : Type 0} (P : B → Type 0) (g : A → B) (xs : List A) →
 each_map P g [] all = tt
 each_map P g (x ∷ xs) all = (all.0, each_map P g xs all.1)
 
--- where P holds, so does Q
-pub each_applied : {A : Type 0} (P Q : A → Type 0) (xs : List A) → AllByRecursion (λ x. P x → Q x) xs
-    → AllByRecursion P xs → AllByRecursion Q xs
-each_applied P Q [] h all = tt
-each_applied P Q (x ∷ xs) h all = (h.0 all.0, each_applied P Q xs h.1 all.1)
-
 pub each_weaker : {A : Type 0} (P Q : A → Type 0) (xs : List A) → ((x : A) → P x → Q x) → AllByRecursion P xs
     → AllByRecursion Q xs
-each_weaker P Q xs h all = each_applied P Q xs (every (λ x. P x → Q x) xs h) all
+each_weaker P Q [] h all = tt
+each_weaker P Q (x ∷ xs) h all = (h x all.0, each_weaker P Q xs h all.1)
+
+pub each_marked : {X M : Type 0} (P : X → Type 0) (Q : M → Type 0) (mark : X → M) (xs : List X)
+    → ((a : X) → P a → Q (mark a)) → AllByRecursion P xs → AllByRecursion Q (map mark xs)
+each_marked P Q mark xs h all = each_map Q mark xs (each_weaker P (λ a. Q (mark a)) xs h all)
 
 pub each_place : {X : Type 0} (region : ℕ → Type 0) (place : X → ℕ) (xs : List X) → AreIn region (map place xs)
     → AllByRecursion (λ x. region (place x)) xs
@@ -139,10 +131,8 @@ each_place region place (x ∷ xs) all = (all.0, each_place region place xs all.
 pub each_places : {X : Type 0} (region : ℕ → Type 0) (places : X → List ℕ) (xs : List X)
     → AreIn region (flat_map places xs) → AllByRecursion (λ x. AreIn region (places x)) xs
 each_places region places [] all = tt
-each_places region places (x ∷ xs) all = (
-  prefix region (places x) (flat_map places xs) all,
-  each_places region places xs (rest region (places x) (flat_map places xs) all),
-)
+each_places region places (x ∷ xs) all =
+    let r = split region (places x) _ all in (r.0, each_places region places xs r.1)
 
 pub each_given : {X Y : Type 0} (Q : X → Type 0) (P : Y → Type 0) (f : X → List Y) (xs : List X)
     → ((x : X) → Q x → AllByRecursion P (f x)) → AllByRecursion Q xs → AllByRecursion P (flat_map f xs)
@@ -152,8 +142,9 @@ each_given Q P f xs h all = each_flat P f xs (each_weaker Q (λ x. AllByRecursio
 pub each_held : {X Y : Type 0} (H Q : X → Type 0) (P : Y → Type 0) (f : X → List Y) (xs : List X)
     → ((x : X) → H x → Q x → AllByRecursion P (f x)) → AllByRecursion H xs → AllByRecursion Q xs
     → AllByRecursion P (flat_map f xs)
-each_held H Q P f xs h held all = each_flat P f xs (each_applied Q (λ x. AllByRecursion P (f x)) xs
-    (each_weaker H (λ x. Q x → AllByRecursion P (f x)) xs h held) all)
+each_held H Q P f [] h held all = tt
+each_held H Q P f (x ∷ xs) h held all =
+    both P (f x) _ (h x held.0 all.0) (each_held H Q P f xs h held.1 all.1)
 
 known : {X : Type 0} (P : X → Type 0) (xs : List ((x : X) × P x)) → AllByRecursion P (map (λ e. e.0) xs)
 known P [] = tt
@@ -172,28 +163,13 @@ module _ (R : MessageItem → Type 0) (Q : Message → Type 0) (of_message : (m 
   rolled : (y : MessageItem-F ((i : MessageItem) × R i) ((m : Message) × Q m))
       → R (roll-MessageItem (map-MessageItem ((i : MessageItem) × R i) ((m : Message) × Q m) MessageItem Message
       (λ e. e.0) (λ e. e.0) y))
+  unfolding roll-MessageItem denote.Hole.Carrier.roll
   rolled (opened.Message m) = subst R (sym (of.rolls-Message m.0)) (of_message m.0 m.1)
-  rolled y = grind (
-    arith,
-    other,
-    of.rolls-Map,
-    of.rolls-Enum,
-    of.rolls-Option,
-    of.rolls-Oneof,
-    of.rolls-Reserved,
-    of.rolls-Empty,
-    of.rolls-Field,
-  )
+  rolled y = other _ tt
 
   pub by_items : ((m : Message) → AllByRecursion R m.items → Q m) → (m : Message) → Q m
   by_items step = ind-Message R Q (λ x y e. subst (λ z. R (roll-MessageItem z)) e (rolled y))
-      (λ x y e. subst (λ z. Q (roll-Message z)) e (step (record {
-        keyword = y.keyword;
-        name = y.name;
-        open_brace = y.open_brace;
-        items = map (λ e. e.0) y.items;
-        close_brace = y.close_brace;
-      }) (known R y.items)))
+      (λ x y e. subst (λ z. Q (roll-Message z)) e (step _ (known R y.items)))
 
 pub by_nested : (Q : MessageDesc → Type 0)
     → ((m : MessageDesc) → AllByRecursion Q (out-MessageDesc m).nested → Q m) → (m : MessageDesc) → Q m
@@ -206,20 +182,14 @@ pub places_out : (m : MessageDesc) → message_places m
     ≡ (out-MessageDesc m).place.offset
     ∷ (flat_map field_places (out-MessageDesc m).fields ++ map oneof_place (out-MessageDesc m).oneofs
     ++ flat_map enum_places (out-MessageDesc m).enums ++ flat_map message_places (out-MessageDesc m).nested)
-places_out m = fold_out-MessageDesc (List ℕ) places_step m
-    ∙ ap (λ xs. (out-MessageDesc m).place.offset
-    ∷ (flat_map field_places (out-MessageDesc m).fields ++ map oneof_place (out-MessageDesc m).oneofs
-    ++ flat_map enum_places (out-MessageDesc m).enums ++ xs))
-    (flat_map-map (λ (places : List ℕ). places) message_places (out-MessageDesc m).nested)
+places_out m = simp flat_map-map at (fold_out-MessageDesc (List ℕ) places_step m)
 
 module _ (region : ℕ → Type 0) where
   pub begun : (t : Tree) → BeginWithin region (flatten t) → Within region t
   begun (Leaf t) all = all.0
   begun Empty all = tt
-  begun (Pair x y) all = (
-    begun x (prefix (λ t. region t.start) (flatten x) (flatten y) all),
-    begun y (rest (λ t. region t.start) (flatten x) (flatten y) all),
-  )
+  begun (Pair x y) all =
+      let r = split (λ t. region t.start) (flatten x) (flatten y) all in (begun x r.0, begun y r.1)
   begun (Left x) all = begun x all
   begun (Right x) all = begun x all
 
@@ -245,9 +215,8 @@ module _ (region : ℕ → Type 0) where
       → EachIn f (separated s)
   separated_of f s all = (
     all.0,
-    each_map (λ x. Within region (f x)) next_item s.rest
-        (each_weaker (λ x. Within region (next_tree f x)) (λ x. Within region (f (next_item x))) s.rest (λ x w. w.1)
-        (listed (next_tree f) s.rest all.1)),
+    each_marked (λ x. Within region (next_tree f x)) (λ y. Within region (f y)) next_item s.rest (λ x w. w.1)
+        (listed (next_tree f) s.rest all.1),
   )
 
   pub bracketed_of : (o : Option Options) → Within region (optional options_tree o)
@@ -274,9 +243,8 @@ module _ (region : ℕ → Type 0) where
 
   option_within : (number : Option ℕ) (kind : ValueKind) (word : List ℕ) (ss : List Setting) → EachIn setting_tree ss
       → AllByRecursion OptionWithin (option_to_list (option_by number kind (first_setting word ss)))
-  option_within None kind word ss all = tt
-  option_within (Some n) kind word [] all = tt
-  option_within (Some n) kind word (s ∷ ss) all = grind (arith, option_within (Some n) kind word ss all.1)
+  option_within number kind word [] all = grind arith
+  option_within number kind word (s ∷ ss) all = grind (arith, option_within number kind word ss all.1)
 
   options_within : (e : Element) (ss : List Setting) → EachIn setting_tree ss
       → AllByRecursion OptionWithin (options_of e ss)
@@ -287,12 +255,8 @@ module _ (region : ℕ → Type 0) where
 
   -- ---- types
 
-  dotted_within : (dot : Option Span) (name : FullName) → Within region (dotted_tree dot name)
-      → region ((type_place dot name).offset)
-  dotted_within dot name all = grind arith
-
   kind_within : (t : FieldType) → Within region (type_tree t) → AreIn region (kind_places (kind_of t))
-  kind_within t all = grind (arith, dotted_within)
+  kind_within t all = grind arith
 
   -- ---- fields
 
@@ -310,11 +274,9 @@ module _ (region : ℕ → Type 0) where
   )
 
   -- a field as a statement, whichever rule has it
-  abbrev pub TypeAndRest : FieldType → Declarator → Type 0
-  TypeAndRest t d = AreIn region (kind_places (kind_of t)) × Within region (declarator_tree d)
-
   pub statement_field : (label : Option Label) (t : FieldType) (d : Declarator)
-      → Within region (field_statement_tree label t d) → TypeAndRest t d
+      → Within region (field_statement_tree label t d)
+      → AreIn region (kind_places (kind_of t)) × Within region (declarator_tree d)
   statement_field label t d all = grind (arith, kind_within)
 
   member_within : (real : ℕ) (f : OneofField) → Within region (member_tree f) → FieldWithin (member_at real f)
@@ -376,17 +338,14 @@ module _ (region : ℕ → Type 0) where
   desc_within : (m : MessageDesc-F MessageDesc) → region (m.place.offset) → AllByRecursion FieldWithin m.fields
       → AllByRecursion OneofWithin m.oneofs → AreIn region (flat_map enum_places m.enums)
       → AllByRecursion DescWithin m.nested → DescWithin (roll-MessageDesc m)
-  desc_within m place fields oneofs enums nested = subst (AreIn region) (sym (places_out (roll-MessageDesc m)))
-      (subst (λ (o : MessageDesc-F MessageDesc). AreIn region
-      (o.place.offset ∷ (flat_map field_places o.fields ++ map oneof_place o.oneofs ++ flat_map enum_places o.enums
-      ++ flat_map message_places o.nested))) (sym (out-roll-MessageDesc m)) (
-        place,
-        both region _ _
-            (both region _ _
-            (both region _ _ (each_flat region field_places m.fields fields)
-            (each_map region oneof_place m.oneofs oneofs)) enums)
-            (each_flat region message_places m.nested nested),
-      ))
+  desc_within m place fields oneofs enums nested = rw (places_out, out-roll-MessageDesc) (
+    place,
+    both region _ _
+        (both region _ _
+        (both region _ _ (each_flat region field_places m.fields fields)
+        (each_map region oneof_place m.oneofs oneofs)) enums)
+        (each_flat region message_places m.nested nested),
+  )
 
   -- of a message, and of a statement
   abbrev MessageNested : Message → Type 0
@@ -403,20 +362,9 @@ module _ (region : ℕ → Type 0) where
   other_nested (message_item.Message' boxed rows) never all full = absurd never
   other_nested (message_item.Map m) is all full =
       let tree : Within region (map_tree m) = subst (Within region) (item_map m) all in
-      let name = tree.1.1.0 in (
-        desc_within _ name (
-          (name, tt),
-          (
-            (
-              name,
-              both region (kind_places (kind_of m.map_type.value)) []
-                  (kind_within m.map_type.value tree.1.0.1.1.1.0) tt,
-            ),
-            tt,
-          ),
-        ) tt tt tt,
-        tt,
-      )
+      let value = both region (kind_places (kind_of m.map_type.value)) []
+      (kind_within m.map_type.value tree.1.0.1.1.1.0) tt in
+      (desc_within _ tree.1.1.0 ((tree.1.1.0, tt), ((tree.1.1.0, value), tt)) tt tt tt, tt)
   other_nested i is all full = tt
 
   message_step : (m : Message) → AllByRecursion ItemNested m.items → MessageNested m
@@ -437,7 +385,7 @@ module _ (region : ℕ → Type 0) where
 
   rpc_type_within : (t : RpcType) → Within region (rpc_type_tree t)
       → AreIn region (reference_places (reference_of t.name))
-  rpc_type_within t all = grind (arith, dotted_within)
+  rpc_type_within t all = grind arith
 
   abbrev pub MethodWithin : MethodDesc → Type 0
   MethodWithin m = AreIn region (method_places m)
@@ -466,10 +414,6 @@ module _ (region : ℕ → Type 0) where
   package_within [] all = tt
   package_within (p ∷ ps) all = (all.0.1.0.0, tt)
 
-  import_within : (s : Statement) → Within region (statement_tree s)
-      → AllByRecursion (λ i. region (import_place i)) (import_of s)
-  import_within s all = grind arith
-
   pub lowered_within : (name : List ℕ) (file : FileTree) → Within region (row statement_tree file.statements)
       → AreIn region (places_of (lowered name file))
   lowered_within name file all =
@@ -481,7 +425,7 @@ module _ (region : ℕ → Type 0) where
       (both region _ _
       (package_within _ (each_part statement_tree file_package package_tree _ (λ s w. grind arith) ss))
       (each_map region import_place _ (each_given (λ s. Within region (statement_tree s))
-      (λ i. region (import_place i)) import_of file.statements import_within ss)))
+      (λ i. region (import_place i)) import_of file.statements (λ s w. grind arith) ss)))
       (each_lowered message_places (lowered_message scope) statement_tree file_message _
       (λ s w. grind (arith, by_items ItemNested MessageNested message_nested other_nested message_step)) ss))
       (each_lowered enum_places lowered_enum statement_tree file_enum _ (λ s w. grind (arith, enum_within)) ss))

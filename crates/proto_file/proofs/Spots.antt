@@ -7,7 +7,7 @@ use Rattle.proto_base.specs.Least.{spot}
 use Rattle.proto_checks.specs.Marks.{Marked, NumberTwice, TextTwice, IsReservedName, ReservedNameUsed}
 use Rattle.proto_base.specs.Sets.{StandsAt, Each, Later}
 use Rattle.proto_checks.specs.declared.marks.MarkedNumber.{MarkedNumber}
-use Rattle.proto_file.proofs.PlacesWithin.{each_map, each_weaker}
+use Rattle.proto_file.proofs.PlacesWithin.{each_map}
 use Rattle.proto_base.specs.declared.spot.Spot.{Spot}
 
 abbrev pub Placed : ℕ → Place → Type 0
@@ -35,10 +35,6 @@ pub later_within : {X : Type 0} (P : X → Type 0) (R : X → X → Type 0) (pla
     → Later xs R (λ a. spot (place a) k) x → SpotWithin n x
 later_within P R place k n xs x h all (i, j, a, b, before, at, at', r, e) =
     at_spot n (place b) k x (h b (standing P xs j b all at')) e
-
-pub each_marked : {X M : Type 0} (P : X → Type 0) (Q : M → Type 0) (mark : X → M) (xs : List X)
-    → ((a : X) → P a → Q (mark a)) → AllByRecursion P xs → AllByRecursion Q (map mark xs)
-each_marked P Q mark xs h all = each_map Q mark xs (each_weaker P (λ a. Q (mark a)) xs h all)
 
 abbrev pub NumbersWithin : ℕ → List MarkedNumber → Type 0
 NumbersWithin n ns = AllByRecursion (λ m. Placed n m.place) ns

@@ -1,35 +1,32 @@
 -- The spots of a file's broken rules lie within a text in which the tokens of its tree begin: what stands in the tree.
 use Rattle.std.proofs.Common.{subst, arith, ℕ, List, map, inl, inr}
-use Rattle.std.specs.Prelude.{flat_map, Option}
+use Rattle.std.specs.Prelude.{flat_map}
 use Rattle.std.specs.List.{AllByRecursion}
 use Rattle.proto_syntax.specs.Grammar.{Tree}
-use Rattle.proto_syntax.specs.Trees.{optional, str_tree, constant_tree, number_tree, signed_tree, setting_tree, range_tree, range_end_tree, reserved_items_tree, declarator_tree, oneof_item_tree, oneof_tree, enum_item_tree, enum_tree, rpc_body_tree, rpc_item_tree, service_item_tree, service_tree, member_tree, message_item_tree, rpc_tree, value_tree}
-use Rattle.proto_tree.specs.declared.constant.Constant.{Constant}
+use Rattle.proto_syntax.specs.Trees.{str_tree, number_tree, signed_tree, setting_tree, range_tree, reserved_items_tree, declarator_tree, oneof_item_tree, oneof_tree, enum_item_tree, enum_tree, rpc_body_tree, rpc_item_tree, service_item_tree, service_tree, member_tree, message_item_tree, rpc_tree, value_tree}
 use Rattle.proto_tree.specs.declared.enumeration.Enum.{Enum}
 use Rattle.proto_tree.specs.declared.enumeration.EnumItem.{EnumItem}
 use Rattle.proto_tree.specs.declared.enumeration.EnumValue.{EnumValue}
-use Rattle.proto_tree.specs.declared.literal.SignedNumber.{SignedNumber}
 use Rattle.proto_tree.specs.declared.message.MessageItem.{MessageItem}
 use Rattle.proto_tree.specs.declared.oneof.Oneof.{Oneof}
 use Rattle.proto_tree.specs.declared.option.Setting.{Setting}
 use Rattle.proto_tree.specs.declared.reserved.Range.{Range}
-use Rattle.proto_tree.specs.declared.reserved.RangeEnd.{RangeEnd}
 use Rattle.proto_tree.specs.declared.reserved.ReservedItems.{ReservedItems}
 use Rattle.proto_tree.specs.declared.service.Service.{Service}
 use Rattle.proto_syntax.proofs.Items.{item_field, item_map, item_oneof, item_enum, item_option, item_reserved}
 use Rattle.proto_desc.specs.declared.rules.Element.{Element}
 use Rattle.proto_options.specs.Options.{message_setting, enum_setting, service_setting, rpc_setting, oneof_setting}
 use Rattle.proto_options.specs.Statements.{oneof_field, message_oneof, message_enum, service_rpc, enum_value, rpc_items, message_reserved, enum_reserved, ranges_in, names_in}
-use Rattle.proto_file.proofs.PlacesWithin.{Within, upto, EachIn, Gives, bracketed_of, each_part, listed, separated_of, statement_field, each_weaker}
+use Rattle.proto_file.proofs.PlacesWithin.{Within, upto, EachIn, Gives, bracketed_of, each_marked, each_part, listed, separated_of, statement_field, each_weaker}
 use Rattle.proto_checks.specs.Elements.{OneofBreaks, ValueBreaks, EnumBreaks, BodyBreaks, RpcBreaks, ServiceBreaks}
-use Rattle.proto_checks.specs.Gathered.{literal, signed_number, field_number, field_numbers, value_numbers, marked_range, end_bound, bounds_of, reserved_name}
+use Rattle.proto_checks.specs.Gathered.{literal, signed_number, field_number, field_numbers, value_numbers, marked_range, bounds_of, reserved_name}
 use Rattle.proto_checks.specs.Numbers.{RangesBreak, FieldNumbersBreak, EnumNumbersBreak}
-use Rattle.proto_checks.specs.Options.{name_place, value_place, SettingBreaks, SettingsBreak, OptionedField, optioned_in_oneof, optioned_fields, FieldOptionsBreak, IsWronglyPacked, IsWronglyTyped}
+use Rattle.proto_checks.specs.Options.{name_place, SettingBreaks, SettingsBreak, OptionedField, optioned_in_oneof, optioned_fields, FieldOptionsBreak, IsWronglyPacked, IsWronglyTyped}
 use Rattle.proto_checks.specs.Marks.{IsBackwards, Outside, TextTwice}
 use Rattle.proto_checks.specs.declared.marks.MarkedNumber.{MarkedNumber}
 use Rattle.proto_checks.specs.declared.marks.MarkedRange.{MarkedRange}
 use Rattle.proto_base.specs.declared.spot.Spot.{Spot}
-use Rattle.proto_file.proofs.Spots.{Placed, SpotWithin, at_spot, standing, each_within, later_within, NumbersWithin, number_twice, text_twice, each_marked, number_at}
+use Rattle.proto_file.proofs.Spots.{Placed, SpotWithin, at_spot, standing, each_within, later_within, NumbersWithin, number_twice, text_twice, number_at}
 use Rattle.proto_base.specs.Sets.{Each, ◌∪◌}
 use Rattle.proto_base.specs.declared.kind.Kind.{Kind}
 use Rattle.proto_tree.specs.declared.literal.StringValue.{StringValue}
@@ -40,13 +37,10 @@ use Rattle.proto_desc.specs.declared.rules.Element.TheVariants as element
 module _ (n : ℕ) where
   -- ---- options
 
-  value_within : (c : Constant) → Within (upto n) (constant_tree c) → Placed n (value_place c)
-  value_within c all = grind arith
-
   settings_break : (e : Element) (ss : List Setting) (x : Spot) → EachIn (upto n) setting_tree ss
       → SettingsBreak e ss x → SpotWithin n x
   settings_break e ss x all (inl b) = each_within (λ s. Within (upto n) (setting_tree s)) (SettingBreaks e) n ss x all
-      (λ s w c. grind (arith, value_within)) b
+      (λ s w c. grind arith) b
   settings_break e ss x all (inr b) = later_within (λ s. Within (upto n) (setting_tree s)) _ name_place kind.OptionTwice
       n ss x (λ s w. w.0.0) all b
 
@@ -89,10 +83,6 @@ module _ (n : ℕ) where
 
   -- ---- what is reserved
 
-  end_within : {N : Type 0} (f : N → Tree) (e : Option (RangeEnd N))
-      → Within (upto n) (optional (range_end_tree f) e) → EachIn (upto n) f (end_bound e)
-  end_within f e all = grind arith
-
   ranges_marked : {N : Type 0} (f : N → Tree) (mark : N → MarkedNumber) (greatest : ℕ) (rs : List (Range N))
       → ((y : N) → Within (upto n) (f y) → Placed n (mark y).place) → EachIn (upto n) (range_tree f) rs
       → AllByRecursion (λ (r : MarkedRange). Placed n r.place) (map (marked_range mark greatest) rs)
@@ -109,7 +99,7 @@ module _ (n : ℕ) where
       → SpotWithin n x
   ranges_break f mark greatest low high k rs used x at all at_used (inl b) = number_at _ _ n _ x
       (each_marked (λ y. Within (upto n) (f y)) (λ (m : MarkedNumber). Placed n m.place) mark (flat_map bounds_of rs) at
-      (each_part (upto n) (range_tree f) bounds_of f _ (λ r w. (w.0, end_within f r.end w.1)) all)) b
+      (each_part (upto n) (range_tree f) bounds_of f _ (λ r w. grind arith) all)) b
   ranges_break f mark greatest low high k rs used x at all at_used (inr (inl (inl b))) = number_at _ _ n _ x at_used b
   ranges_break f mark greatest low high k rs used x at all at_used (inr (inl (inr b))) =
       later_within (λ (r : MarkedRange). Placed n r.place) _ (λ (r : MarkedRange). r.place) _ n _ x (λ r w. w)
@@ -149,9 +139,6 @@ module _ (n : ℕ) where
           (λ i w. grind (arith, separated_of (upto n) (range_tree number_tree))) reserved) numbers b
       by (inr b) = names_break number_tree _ x reserved b
 
-  signed_within : (s : SignedNumber) → Within (upto n) (signed_tree s) → Placed n (signed_number s).place
-  signed_within s all = grind arith
-
   enum_numbers_break : (is : List EnumItem) (x : Spot) → EachIn (upto n) enum_item_tree is → EnumNumbersBreak is x
       → SpotWithin n x
   enum_numbers_break is x all b = by b
@@ -159,18 +146,19 @@ module _ (n : ℕ) where
       numbers : NumbersWithin n (value_numbers is)
       numbers = each_marked (λ v. Within (upto n) (value_tree v)) (λ (m : MarkedNumber). Placed n m.place)
           (λ (v : EnumValue). signed_number v.number) (flat_map enum_value is)
-          (λ (v : EnumValue) w. signed_within v.number w.1.1.0)
+          (λ (v : EnumValue) w. grind arith)
           (each_part (upto n) enum_item_tree enum_value value_tree _ (λ s w. grind arith) all)
 
       reserved : EachIn (upto n) (reserved_items_tree signed_tree) (flat_map enum_reserved is)
-      reserved = each_part (upto n) enum_item_tree enum_reserved (reserved_items_tree signed_tree) _ (λ s w. grind arith) all
+      reserved = each_part (upto n) enum_item_tree enum_reserved (reserved_items_tree signed_tree) _
+          (λ s w. grind arith) all
 
       by : EnumNumbersBreak is x → SpotWithin n x
       by (inl (inl (inl (inl b)))) = at_spot n b.0.place _ x
           (standing (λ (m : MarkedNumber). Placed n m.place) (value_numbers is) 0 b.0 numbers b.1) b.3
       by (inl (inl (inl (inr b)))) = number_at _ _ n _ x numbers b
       by (inl (inl (inr b))) = number_twice n _ _ x numbers b.1
-      by (inl (inr b)) = ranges_break signed_tree signed_number _ _ _ _ _ _ x signed_within
+      by (inl (inr b)) = ranges_break signed_tree signed_number _ _ _ _ _ _ x (λ y w. grind arith)
           (each_part (upto n) (reserved_items_tree signed_tree) ranges_in (range_tree signed_tree) _
           (λ i w. grind (arith, separated_of (upto n) (range_tree signed_tree))) reserved) numbers b
       by (inr b) = names_break signed_tree _ x reserved b
