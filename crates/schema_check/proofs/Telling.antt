@@ -19,8 +19,7 @@ own_fault : (limits : Limits) (sources : List Source) (x : SourceFault) → Brea
     → SomeHas limits sources x
 own_fault limits sources _ (many_files over) pass = absurd (omega (arith, pass))
 own_fault limits sources _ (repeated_file_name i j less below same) pass = absurd (omega (arith, pass))
-own_fault limits sources _ (file_fault s step place what inside fault) pass =
-    (s, inside, (step, place, what, fault, refl))
+own_fault limits sources _ (file_fault s f inside fault) pass = (s, inside, (f, fault, refl))
 own_fault limits sources _ (bad_import descs a place what described bad) pass = absurd (omega (arith, pass))
 own_fault limits sources _ (many_names descs described over) pass = absurd (omega (arith, pass))
 own_fault limits sources _ (repeated_name descs o described twice) pass = absurd (omega (arith, pass))
@@ -66,7 +65,7 @@ placed_locally limits sources first faults least pass all f inside =
     let differ = names_differ limits sources (told_by first) least.among pass in
     let told = in_map told_by faults f inside in
     let (t, there, own_one) = no_other limits sources (map told_by faults) (told_by f) all told in
-    let (step, place, what, found, is) = own_one in
+    let (f', found, is) = own_one in
     let own = placed limits sources (map told_by faults) (told_by f) t differ all told there (sym (ap (λ
     (y : SourceFault). y.file) is)) in
     let bound = limits.file_bytes_bound in
