@@ -18,6 +18,7 @@ pub mod Searching
 pub mod Shared
 pub mod Standing
 pub mod Tabled
+pub mod TellingScopes
 pub mod Unhashing
 pub mod Unique
 pub mod Keying

@@ -1,5 +1,5 @@
 -- Runs of one name, and what is repeated in them.
-use Rattle.std.proofs.Common.{◌≡◌, ◌≢◌, ◌∙◌, sym, ℕ, ◌+◌, ◌-◌, ◌<◌, ◌≤◌, List, [], ◌∷◌, ◌++◌, length, refl, arith, inl, inr}
+use Rattle.std.proofs.Common.{◌≡◌, ◌≢◌, ◌∙◌, sym, Bool, ℕ, ◌+◌, ◌-◌, ◌<◌, ◌≤◌, List, [], ◌∷◌, ◌++◌, length, refl, arith, inl, inr}
 use Rattle.std.specs.Prelude.{Contains, false, Option, None, Some, IsSomeAnd, MatchOption}
 use Rattle.std.proofs.lemmas.Bool.{cases_lt}
 use Rattle.std.proofs.lemmas.List.Elements.{Contains-append_left, Contains-push, Contains-push_cases}
@@ -23,6 +23,20 @@ run_new os k up below other = record {
   same = λ i h g. absurd (omega arith);
   element = λ i h g. absurd (omega arith);
 }
+
+-- a name goes on with that of what stands before it
+pub run_longer : (os : List Occurrence) (k start : ℕ) (has_element : Bool) → 0 < k
+    → (at os (k - 1)).name ≡ (at os k).name → IsRun os (k - 1) (k - 1 + 1) start has_element
+    → IsRun os k k start has_element
+run_longer os k start has_element some same run =
+    let size : k - 1 + 1 ≡ k = omega (arith, some) in
+    let known : IsRun os (k - 1) k start has_element = rw size at run in
+    record {
+      within = known.within;
+      whole = λ i h e. known.whole i h (e ∙ sym same);
+      same = λ i h g. known.same i h g ∙ same;
+      element = known.element;
+    }
 
 -- ---- repeated, and twice
 

@@ -1,10 +1,10 @@
 -- Slots of hashes: they follow the order of occurrences, where they begin, and what stands in one.
 use Rattle.std.proofs.lemmas.Grind.{common_steps}
-use Rattle.std.proofs.Common.{◌≡◌, ◌≢◌, ◌∙◌, ℕ, ◌+◌, ◌-◌, ◌<◌, ◌≤◌, List, ◌++◌, length, get_or, ap, arith, inl, inr}
+use Rattle.std.proofs.Common.{◌≡◌, ◌≢◌, ◌∙◌, ℕ, ◌+◌, ◌-◌, ◌*◌, ◌<◌, ◌≤◌, List, ◌++◌, length, get_or, ap, arith, inl, inr, lit<}
 use Rattle.std.specs.Prelude.{replicate}
 use Rattle.std.specs.Ordering.{is_lt}
 use Rattle.std.proofs.Math.ListN.{get_or-append}
-use Rattle.std.proofs.Math.Nat.{div-mul-le_self, mul-le-mul_right}
+use Rattle.std.proofs.Math.Nat.{div-lt_iff_lt-mul, div-mul-le_self, mul-le-mul_right, mul-lt-mul_of_pos_right}
 use Rattle.std.proofs.Math.Seq.{get_or-append_right}
 use Rattle.std.proofs.lemmas.Bool.{cases_lt}
 use Rattle.std.proofs.lemmas.List.{get_or-replicate, length-append, length-replicate}
@@ -24,6 +24,11 @@ use Rattle.proto_names.proofs.Ordered.{first_not, not_below}
 
 slots_up : (count a b : ℕ) → a ≤ b → slot_of count a ≤ slot_of count b
 slots_up count a b h = grind (arith, common_steps, div-mul-le_self, mul-le-mul_right, le-div)
+
+pub slot_below : (count hash : ℕ) → 0 < count → hash < 4294967296 → slot_of count hash < count
+slot_below count hash some small =
+    let less : hash * count < 4294967296 * count = mul-lt-mul_of_pos_right small some in
+    (div-lt_iff_lt-mul {k = 4294967296} (lit< tt)).1 (omega (arith, less))
 
 hashes_rise : (os : List Occurrence) → AreInHashOrder os → (i j : ℕ) → i ≤ j → j < length os
     → hash_of (at os i).name ≤ hash_of (at os j).name

@@ -14,3 +14,4 @@ pub mod Shares
 pub mod Steps
 pub mod Repeated
 pub mod SeenAlike
+pub mod ScopeHashes

@@ -3,11 +3,9 @@ use Rattle.std.specs.Prelude.{◌≡◌, ◌⊎◌, ℕ, ◌<◌, ◌≤◌, Lis
 use Rattle.std.specs.declared.cmp.Ordering.{Ordering}
 use Rattle.std.specs.Cmp.Lexicographic.{slice_cmp}
 use Rattle.std.specs.Ordering.{nat_cmp, ordering_then}
-use Rattle.proto_names.specs.Entries.{name_at}
 use Rattle.proto_names.specs.Hashes.{hash_of}
 use Rattle.proto_names.specs.Index.{name_of}
 use Rattle.proto_names.specs.Occurrences.{Occurrence}
-use Rattle.proto_names.specs.declared.entry.Entry.{Entry}
 use Rattle.proto_names.specs.declared.entry.Location.{Location}
 
 -- most names differ in their hashes, so that few are compared byte by byte
@@ -18,18 +16,15 @@ name_cmp a b = ordering_then (nat_cmp (hash_of a) (hash_of b)) (slice_cmp nat_cm
 abbrev pub AreInHashOrder : List Occurrence → Type 0
 AreInHashOrder os = IsSortedByKey name_of name_cmp os
 
+-- by file, then by place
+abbrev pub place_cmp : Occurrence → Occurrence → Ordering
+place_cmp a b = ordering_then (nat_cmp a.file b.file) (nat_cmp a.place.offset b.place.offset)
+
 abbrev pub occurrence_cmp : Occurrence → Occurrence → Ordering
-occurrence_cmp a b = ordering_then (name_cmp a.name b.name)
-    (ordering_then (nat_cmp a.file b.file) (nat_cmp a.place.offset b.place.offset))
+occurrence_cmp a b = ordering_then (name_cmp a.name b.name) (place_cmp a b)
 
 abbrev pub AreInOrder : List Occurrence → Type 0
 AreInOrder os = IsSorted occurrence_cmp os
-
--- the same order of entries whose names stand in a text, by the hashes that they hold
-abbrev pub entry_cmp : List ℕ → Entry → Entry → Ordering
-entry_cmp text a b =
-    ordering_then (nat_cmp a.hash b.hash) (ordering_then (slice_cmp nat_cmp (name_at text a) (name_at text b))
-    (ordering_then (nat_cmp a.location.file b.location.file) (nat_cmp a.location.place.offset b.location.place.offset)))
 
 -- by file, then by place
 abbrev pub NoLater : Location → Location → Type 0

@@ -1,20 +1,20 @@
 //! The entries of an index: the occurrences of full names, which stand in one text.
 
-ghost use Rattle.std.specs.Prelude.{◌≡◌, ℕ, ◌+◌, ◌<◌, ◌≤◌, ◌^◌, ◌++◌, ◌∷◌, [], map, take, length, All, OnOk, IsPermutation, IsSorted};
+ghost use Rattle.std.specs.Prelude.{◌≡◌, ◌<◌, ◌++◌, ◌∷◌, [], length, IfOk, OnOk, string_bytes};
 ghost use Rattle.proto_names.specs.Entries.{IsEntryOf, occurrence};
+ghost use Rattle.proto_names.specs.Hashes.{hash_of};
+ghost use Rattle.proto_names.specs.Order.{location_of};
+ghost use Rattle.proto_names.specs.Runs.{at};
 ghost use Rattle.proto_names.specs.Shares.{share_of};
 ghost use Rattle.proto_desc.specs.DeclaredNames.{scoped};
-ghost use Rattle.proto_names.specs.Order.{AreInOrder, entry_cmp};
 
 use crate::entry::{Entry, Location};
 use crate::full_name::push_name;
-use crate::keys::by_hashes;
-use crate::names::Names;
 use crate::scope::Scope;
 use crate::share::Share;
+use proto_base::Place;
 use proto_desc::name_kind::NameKind;
 use std::alloc::{AllocError, Global};
-use std::cmp::Ordering;
 use std::marker::Model;
 use std::str;
 
@@ -112,49 +112,52 @@ impl Entries {
         self.entries.len()
     }
 
-    /// The names of the entries, in their order.
-    pub(crate) fn names(&self) -> Names<'_>
-        ensures { result ≡ self.now }
+    /// The hash of the name at a position.
+    pub(crate) fn hash(&self, position: usize) -> u32
+        requires { position < length self.now }
+        ensures { result ≡ hash_of (at self.now position).name }
     {
-        Names::new(self.text.as_bytes(), self.entries.as_slice())
+        self.entries[position].hash
     }
 
-    /// Sorts the entries by the hashes of their names, then by name, file and place.
-    pub(crate) fn sort(&mut self, alloc: Global) -> Result<(), AllocError>
-        requires { length self.old ≤ 1_048_576 }
-        ensures all { OnOk result (IsPermutation self.old self.new) }
-        ensures order { OnOk result (AreInOrder self.new) }
+    /// The bytes of the name at a position, none where there is no entry.
+    pub(crate) fn name(&self, position: usize) -> &[u8]
+        ensures { result.now ≡ (at self.now position).name }
     {
-        let mut entries = by_hashes(alloc, &self.entries)?;
-        sort_entries(self.text.as_bytes(), &mut entries);
-        self.entries = entries;
-        Ok(())
-    }
-}
-
-/// The order of entries by the hashes of their names, which stand in a text, then by name, file and place. The hash
-/// comes first, so that few names are compared.
-fn compare_entries(text: &[u8], first: &Entry, second: &Entry) -> Ordering
-    ensures { result ≡ entry_cmp text.now first.now second.now }
-{
-    match first.hash.cmp(&second.hash) {
-        Ordering::Equal => {
-            let names = first.name(text).cmp(second.name(text));
-            names.then(first.location.cmp(&second.location))
+        match self.entries.get(position) {
+            Some(entry) => entry.name(self.text.as_bytes()),
+            None => &[],
         }
-        unequal => unequal,
     }
-}
 
-/// Sorts entries whose names stand in a text, in place.
-fn sort_entries(text: &[u8], entries: &mut [Entry])
-    ensures all { IsPermutation entries.old entries.new }
-    ensures len { length entries.new ≡ length entries.old }
-    ensures order { IsSorted (entry_cmp text.now) entries.new }
-{
-    entries.sort_unstable_by(
-        |first: &Entry, second: &Entry| -> Ordering
-            ensures { result ≡ entry_cmp text.entry.now first.now second.now }
-        { compare_entries(text, first, second) },
-    );
+    /// The name at a position, as a text of its own. Names are UTF-8, so nothing is replaced.
+    pub(crate) fn to_text(&self, alloc: Global, position: usize) -> Result<String, AllocError>
+        requires { position < length self.now }
+        ensures { IfOk result (λ text. string_bytes text ≡ (at self.now position).name) }
+    {
+        String::from_utf8_lossy(alloc, self.entries[position].name(self.text.as_bytes()))
+    }
+
+    /// Where the name at a position stands; at the first byte of the first file where there is no entry.
+    pub(crate) fn location(&self, position: usize) -> Location
+        ensures { result ≡ location_of (at self.now position) }
+    {
+        match self.entries.get(position) {
+            Some(entry) => entry.location,
+            None => Location {
+                file: 0,
+                place: Place { offset: 0 },
+            },
+        }
+    }
+
+    /// What the name at a position is declared for; none where it is a package, or where there is no entry.
+    pub(crate) fn kind(&self, position: usize) -> Option<NameKind>
+        ensures { result ≡ (at self.now position).kind }
+    {
+        match self.entries.get(position) {
+            Some(entry) => entry.kind,
+            None => None,
+        }
+    }
 }

@@ -1,51 +1,53 @@
 //! The names of entries, with what they are declared for and where.
 
-ghost use Rattle.std.specs.Prelude.{◌≡◌, ◌≢◌, ◌↔◌, ℕ, ◌<◌, ◌≤◌, map, length, take, drop, IfOk, IsTrue, string_bytes};
+ghost use Rattle.std.specs.Prelude.{◌≡◌, ◌↔◌, ◌<◌, ◌≤◌, length, take, drop, IfOk, IsTrue, string_bytes};
 ghost use Rattle.proto_desc.specs.DeclaredNames.{scoped};
-ghost use Rattle.proto_names.specs.Entries.{AreEntriesOf, occurrence};
 ghost use Rattle.proto_names.specs.Hashes.{hash_of};
+ghost use Rattle.proto_names.specs.Keys.{AreKeysAmong, found_by};
 ghost use Rattle.proto_names.specs.Order.{location_of};
 ghost use Rattle.proto_names.specs.Runs.{at};
 
-use crate::entry::{Entry, Location};
+use crate::entries::Entries;
+use crate::entry::Location;
 use crate::full_name::is_name_in;
+use crate::keys::{hash_in, position_in};
 use proto_desc::name_kind::NameKind;
 use std::alloc::{AllocError, Global};
 use std::marker::Model;
 
-/// Entries, and the text of all names. Contracts see them as the occurrences that they stand for.
+/// Entries that are found by keys, in the order of these. Contracts see them as the occurrences that they stand for.
 #[derive(Drop)]
 pub(crate) struct Names<'e> {
-    pub(crate) text: &'e [u8],
-    pub(crate) entries: &'e [Entry],
+    pub(crate) entries: &'e Entries,
+    pub(crate) keys: &'e [u64],
 }
 
 impl<'e> Model for Names<'e> {
-    ghost use Rattle.std.specs.Prelude.{List, map};
-    ghost use Rattle.proto_names.specs.Entries.{AreEntriesOf, occurrence};
+    ghost use Rattle.std.specs.Prelude.{List};
+    ghost use Rattle.proto_names.specs.Keys.{AreKeysAmong, found_by};
     ghost use Rattle.proto_names.specs.Occurrences.{Occurrence};
 
     ghost Value = { List Occurrence };
 
-    ghost view = { λ names. map (occurrence names.text.now) names.entries.now };
+    ghost view = { λ names. found_by names.entries.now names.keys.now };
 
-    ghost invariant = { λ names. AreEntriesOf names.text.now names.entries.now };
+    ghost invariant = { λ names. AreKeysAmong names.entries.now names.keys.now };
 }
 
 impl<'e> Names<'e> {
-    /// Entries of names in this text.
-    pub(crate) fn new(text: &'e [u8], entries: &'e [Entry]) -> Names<'e>
-        requires { AreEntriesOf text.now entries.now }
-        ensures { result ≡ map (occurrence text.now) entries.now }
+    /// What these keys find among entries.
+    pub(crate) fn new(entries: &'e Entries, keys: &'e [u64]) -> Names<'e>
+        requires { AreKeysAmong entries.now keys.now }
+        ensures { result ≡ found_by entries.now keys.now }
     {
-        Names { text, entries }
+        Names { entries, keys }
     }
 
     /// How many entries there are.
     pub(crate) fn len(&self) -> usize
         ensures { result ≡ length self.now }
     {
-        self.entries.len()
+        self.keys.len()
     }
 
     /// The hash of the name at a position.
@@ -53,8 +55,8 @@ impl<'e> Names<'e> {
         requires { position < length self.now }
         ensures { result ≡ hash_of (at self.now position).name }
     {
-        let entries = self.entries;
-        entries[position].hash
+        let keys = self.keys;
+        hash_in(keys[position])
     }
 
     /// The bytes of the name at a position.
@@ -63,16 +65,16 @@ impl<'e> Names<'e> {
         ensures { result.now ≡ (at self.now position).name }
     {
         let entries = self.entries;
-        entries[position].name(self.text)
+        entries.name(position_in(self.keys[position]))
     }
 
-    /// The name at a position, as a text of its own. Names are UTF-8, so nothing is replaced.
+    /// The name at a position, as a text of its own.
     pub(crate) fn to_text(&self, alloc: Global, position: usize) -> Result<String, AllocError>
         requires { position < length self.now }
         ensures { IfOk result (λ text. string_bytes text ≡ (at self.now position).name) }
     {
-        let entries = self.entries;
-        String::from_utf8_lossy(alloc, entries[position].name(self.text))
+        let keys = self.keys;
+        self.entries.to_text(alloc, position_in(keys[position]))
     }
 
     /// What the name at a position is declared for; none where it is a package.
@@ -80,8 +82,7 @@ impl<'e> Names<'e> {
         requires { position < length self.now }
         ensures { result ≡ (at self.now position).kind }
     {
-        let entries = self.entries;
-        entries[position].kind
+        self.entries.kind(position_in(self.keys[position]))
     }
 
     /// Where the name at a position stands.
@@ -89,8 +90,7 @@ impl<'e> Names<'e> {
         requires { position < length self.now }
         ensures { result ≡ location_of (at self.now position) }
     {
-        let entries = self.entries;
-        entries[position].location
+        self.entries.location(position_in(self.keys[position]))
     }
 
     /// Whether the entry at a position has the name in a scope.
@@ -116,8 +116,8 @@ impl<'e> Names<'e> {
         ensures { result ≡ drop count self.now }
     {
         Names {
-            text: self.text,
-            entries: &self.entries[count..],
+            entries: self.entries,
+            keys: &self.keys[count..],
         }
     }
 
@@ -127,8 +127,8 @@ impl<'e> Names<'e> {
         ensures { result ≡ take count self.now }
     {
         Names {
-            text: self.text,
-            entries: &self.entries[..count],
+            entries: self.entries,
+            keys: &self.keys[..count],
         }
     }
 }

@@ -94,7 +94,7 @@ impl NameIndex {
         ensures { IsTrue result ↔ Visible self.now.occurrences (SeenBy links.now file) (fits role)
             (scoped scope.entry.text.now name.now) }
     {
-        sees_one(links, file, role, &self.entries.named(scope, name))
+        sees_one(links, file, role, &self.entries.scopes_named(scope, name))
     }
 
     /// The kind of the type of the name in a scope.
@@ -105,7 +105,7 @@ impl NameIndex {
             (scoped scope.entry.text.now name.now)) (IsType self.now.occurrences
             (SeenBy links.now file) (scoped scope.entry.text.now name.now)) }
     {
-        type_among(links, file, &self.entries.named(scope, name))
+        type_among(links, file, &self.entries.scopes_named(scope, name))
     }
 
     /// What a scope decides of a spelled name, if it does.

@@ -2,11 +2,14 @@
 
 ghost use Rattle.std.specs.Prelude.{◌≡◌, ◌<◌, ◌≤◌, All, IfOk, length, map, string_bytes};
 ghost use Rattle.proto_names.specs.Index.{is_service_kind, services_of};
+ghost use Rattle.proto_names.specs.ScopeHashes.{TellsScopes};
 ghost use Rattle.proto_names.specs.Shares.{IsSortedOf};
 
 use crate::entries::Entries;
 use crate::entry::Location;
 use crate::names::Names;
+use crate::scope_hashes::ScopeHashes;
+use crate::sorted_entries::SortedEntries;
 use crate::table::EntryTable;
 use crate::twice::first_twice;
 use proto_desc::name_kind::NameKind;
@@ -27,13 +30,18 @@ fn is_service(kind: Option<NameKind>) -> bool
     matches!(kind, Some(NameKind::Service))
 }
 
-/// The names of the services among entries, in the order of these.
-fn listed_services(alloc: Global, names: &Names) -> Result<Vec<String>, AllocError>
+/// The names of the services among entries, of which the hashes of the scopes are told, in the order of the entries.
+fn listed_services(
+    alloc: Global,
+    names: &Names,
+    scopes: &ScopeHashes,
+) -> Result<Vec<String>, AllocError>
+    requires { TellsScopes names.now scopes.now.bits scopes.now.slots }
     ensures { IfOk result (λ services. map string_bytes services.items ≡ services_of names.now) }
 {
     let mut services = Vec::new(alloc);
     for position in 0..names.len() {
-        if is_service(names.kind(position)) {
+        if scopes.tells(names.hash(position)) && is_service(names.kind(position)) {
             services.push(names.to_text(alloc, position)?)?;
         }
     }
@@ -43,17 +51,18 @@ fn listed_services(alloc: Global, names: &Names) -> Result<Vec<String>, AllocErr
 /// Entries, which stand in so many files, in their order.
 pub(crate) fn sort_share(
     alloc: Global,
-    mut entries: Entries,
+    entries: Entries,
     files: usize,
 ) -> Result<SortedShare, AllocError>
     requires many { length entries ≤ 1_048_576 }
     requires files { All (λ o. o.file < files) entries }
     ensures { IfOk result (IsSortedOf entries) }
 {
-    entries.sort(alloc)?;
+    let scopes = ScopeHashes::among(alloc, &entries)?;
+    let entries = SortedEntries::new(alloc, entries)?;
     let twice = first_twice(&entries.names());
-    let services = listed_services(alloc, &entries.names())?;
-    let table = EntryTable::new(alloc, entries, files)?;
+    let services = listed_services(alloc, &entries.names(), &scopes)?;
+    let table = EntryTable::new(alloc, entries, scopes, files)?;
     Ok(SortedShare {
         table,
         services,

@@ -20,7 +20,7 @@ pub(crate) struct Starts {
 }
 
 /// The slot of a hash, among so many. A larger hash has no smaller slot.
-fn slot_of(count: usize, hash: u32) -> usize
+pub(crate) fn slot_of(count: usize, hash: u32) -> usize
     requires some { 0 < count }
     requires few { count < 4_294_967_296 }
     ensures slot { result ≡ slot_of count hash }

@@ -1,7 +1,7 @@
 //! The entries of an index, in the order of their names, with the slots by which those of one name are found, and the
 //! packages that many files have.
 
-ghost use Rattle.std.specs.Prelude.{◌≡◌, ◌≢◌, ◌↔◌, ◌<◌, ◌≤◌, length, slice_index_or, All, Contains, IfOk, IfSome};
+ghost use Rattle.std.specs.Prelude.{◌≡◌, ◌≢◌, ◌↔◌, ◌<◌, ◌≤◌, length, slice_index_or, All, Contains, IfOk, IfSome, IsTrue};
 ghost use Rattle.std.specs.List.Sorted.{IsPartitionPoint};
 ghost use Rattle.std.specs.declared.cmp.Ordering.TheVariants.{Less};
 ghost use Rattle.proto_desc.specs.DeclaredNames.{scoped};
@@ -9,13 +9,16 @@ ghost use Rattle.proto_names.specs.Hashes.{hash_of};
 ghost use Rattle.proto_names.specs.Order.{AreInHashOrder, AreInOrder, name_cmp};
 ghost use Rattle.proto_names.specs.Occurrences.{Occurrence};
 ghost use Rattle.proto_names.specs.Packages.{ArePackagesOf, IsPackageOf};
+ghost use Rattle.proto_names.specs.Resolution.{is_scope};
+ghost use Rattle.proto_names.specs.ScopeHashes.{TellsScopes};
 ghost use Rattle.proto_names.specs.Starts.{AreStarts};
 
-use crate::entries::Entries;
 use crate::halving::count_named;
 use crate::names::Names;
 use crate::packages::{PackageFiles, Packages};
 use crate::scope::Scope;
+use crate::scope_hashes::ScopeHashes;
+use crate::sorted_entries::SortedEntries;
 use crate::starts::{Starts, starts_of};
 use std::alloc::{AllocError, Global};
 use std::marker::Model;
@@ -30,8 +33,9 @@ pub(crate) struct Named<'t> {
 /// Entries with what is found among them. Contracts see them as the occurrences that they stand for.
 #[derive(Drop)]
 pub(crate) struct EntryTable {
-    entries: Entries,
+    entries: SortedEntries,
     starts: Starts,
+    scopes: ScopeHashes,
     packages: Packages,
 }
 
@@ -40,6 +44,7 @@ impl Model for EntryTable {
     ghost use Rattle.proto_names.specs.Occurrences.{Occurrence};
     ghost use Rattle.proto_names.specs.Order.{AreInOrder};
     ghost use Rattle.proto_names.specs.Packages.{ArePackagesOf};
+    ghost use Rattle.proto_names.specs.ScopeHashes.{TellsScopes};
     ghost use Rattle.proto_names.specs.Starts.{AreStarts};
 
     ghost Value = { List Occurrence };
@@ -48,18 +53,21 @@ impl Model for EntryTable {
 
     ghost invariant = { λ table. AreInOrder table.entries
         × AreStarts table.entries table.starts.counts.items
+        × TellsScopes table.entries table.scopes.bits table.scopes.slots
         × ArePackagesOf table.entries table.packages.runs.items table.packages.files };
 }
 
 impl EntryTable {
-    /// The entries, which stand in so many files, with what is found among them.
+    /// The entries, which stand in so many files, with the hashes of the scopes among them, and with what else is found.
     pub(crate) fn new(
         alloc: Global,
-        entries: Entries,
+        entries: SortedEntries,
+        scopes: ScopeHashes,
         files: usize,
     ) -> Result<EntryTable, AllocError>
         requires order { AreInOrder entries }
         requires many { length entries ≤ 1_048_576 }
+        requires scopes { TellsScopes entries scopes.bits scopes.slots }
         requires files { All (λ o. o.file < files) entries }
         ensures { IfOk result (λ table. table ≡ entries) }
     {
@@ -68,6 +76,7 @@ impl EntryTable {
         Ok(EntryTable {
             entries,
             starts,
+            scopes,
             packages,
         })
     }
@@ -89,6 +98,26 @@ impl EntryTable {
             hash,
             name,
         )
+    }
+
+    /// The entries of the name in a scope, which has this hash, or none where no scope has this name.
+    pub(crate) fn scopes_named(&self, scope: Scope, hash: u32, name: &str) -> Named<'_>
+        requires hash { hash ≡ hash_of (scoped scope.text.now name.now) }
+        ensures found { (o : Occurrence) → Contains result.names o
+            → Contains self.now o × (o.name ≡ scoped scope.entry.text.now name.now) }
+        ensures scopes { (o : Occurrence) → Contains self.now o
+            → o.name ≡ scoped scope.entry.text.now name.now → IsTrue (is_scope o.kind)
+            → Contains result.names o }
+        ensures files { IfSome result.files (λ p. IsPackageOf result.names p.files.now p.row) }
+    {
+        if self.scopes.tells(hash) {
+            self.named(scope, hash, name)
+        } else {
+            Named {
+                names: self.entries.names().take(0),
+                files: None,
+            }
+        }
     }
 }
 

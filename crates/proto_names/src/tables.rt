@@ -1,9 +1,11 @@
 //! The tables of all shares.
 
-ghost use Rattle.std.specs.Prelude.{◌≡◌, Contains, IfSome};
+ghost use Rattle.std.specs.Prelude.{◌≡◌, Contains, IfSome, IsTrue};
 ghost use Rattle.proto_desc.specs.DeclaredNames.{scoped};
+ghost use Rattle.proto_names.specs.Hashes.{hash_of};
 ghost use Rattle.proto_names.specs.Occurrences.{Occurrence};
 ghost use Rattle.proto_names.specs.Packages.{IsPackageOf};
+ghost use Rattle.proto_names.specs.Resolution.{is_scope};
 ghost use Rattle.proto_names.specs.Shares.{AreInShares, all_of};
 
 use crate::scope::Scope;
@@ -37,6 +39,15 @@ impl Tables {
         Tables { tables }
     }
 
+    /// The table of the share that has the names of a hash.
+    fn with_hash(&self, hash: u32) -> &EntryTable
+        ensures found { (o : Occurrence) → Contains result.now o → Contains self.now o }
+        ensures all { (o : Occurrence) → Contains self.now o → hash_of o.name ≡ hash
+            → Contains result.now o }
+    {
+        &self.tables[hash as usize % self.tables.len()]
+    }
+
     /// The entries of the name in a scope.
     pub(crate) fn named(&self, scope: Scope, name: &str) -> Named<'_>
         ensures found { (o : Occurrence) → Contains result.names o
@@ -46,6 +57,19 @@ impl Tables {
         ensures files { IfSome result.files (λ p. IsPackageOf result.names p.files.now p.row) }
     {
         let hash = scope.hash_with(name);
-        self.tables[hash as usize % self.tables.len()].named(scope, hash, name)
+        self.with_hash(hash).named(scope, hash, name)
+    }
+
+    /// The entries of the name in a scope, or none where no scope has this name.
+    pub(crate) fn scopes_named(&self, scope: Scope, name: &str) -> Named<'_>
+        ensures found { (o : Occurrence) → Contains result.names o
+            → Contains self.now o × (o.name ≡ scoped scope.entry.text.now name.now) }
+        ensures scopes { (o : Occurrence) → Contains self.now o
+            → o.name ≡ scoped scope.entry.text.now name.now → IsTrue (is_scope o.kind)
+            → Contains result.names o }
+        ensures files { IfSome result.files (λ p. IsPackageOf result.names p.files.now p.row) }
+    {
+        let hash = scope.hash_with(name);
+        self.with_hash(hash).scopes_named(scope, hash, name)
     }
 }

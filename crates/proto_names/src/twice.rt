@@ -27,16 +27,29 @@ pub(crate) fn continues(names: &Names, position: usize) -> bool
     position > 0 && names.have_one_name(position - 1, position)
 }
 
-/// The run of what stands at a position, up to that position.
-fn run_before(names: &Names, last: Run, position: usize) -> Run
+/// The run with what stands at its end.
+fn run_with(names: &Names, run: Run, position: usize) -> Run
+    requires position { position < length names.now }
+    requires run { IsRun names.now position position run.start run.has_element }
+    ensures { IsRun names.now position (position + 1) result.start result.has_element }
+{
+    Run {
+        start: run.start,
+        has_element: run.has_element || names.kind(position).is_some(),
+    }
+}
+
+/// The run of what stands at a position, up to that position, by the run of what stands before. Most names stand alone, and
+/// no kind of these is read.
+fn run_at(names: &Names, last: Run, position: usize) -> Run
     requires order { AreInOrder names.now }
     requires position { position < length names.now }
-    requires last { 0 < position → IsRun names.now (position - 1) position last.start
+    requires last { 0 < position → IsRun names.now (position - 1) (position - 1) last.start
         last.has_element }
     ensures { IsRun names.now position position result.start result.has_element }
 {
     if continues(names, position) {
-        last
+        run_with(names, last, position - 1)
     } else {
         Run {
             start: position,
@@ -52,22 +65,7 @@ fn is_twice(names: &Names, run: Run, position: usize) -> bool
     requires run { IsRun names.now position position run.start run.has_element }
     ensures { IsTrue result ↔ Repeats names.now position }
 {
-    match names.kind(position) {
-        Some(_) => run.start < position,
-        None => run.has_element,
-    }
-}
-
-/// The run with what stands at its end.
-fn run_with(names: &Names, run: Run, position: usize) -> Run
-    requires position { position < length names.now }
-    requires run { IsRun names.now position position run.start run.has_element }
-    ensures { IsRun names.now position (position + 1) result.start result.has_element }
-{
-    Run {
-        start: run.start,
-        has_element: run.has_element || names.kind(position).is_some(),
-    }
+    run.start < position && (run.has_element || names.kind(position).is_some())
 }
 
 /// The earlier of what is known and one more.
@@ -92,11 +90,10 @@ pub(crate) fn first_twice(names: &Names) -> Option<Location>
         has_element: false,
     };
     for position in 0..names.len() {
-        let before = run_before(names, run, position);
-        if is_twice(names, before, position) {
+        run = run_at(names, run, position);
+        if is_twice(names, run, position) {
             first = Some(lesser(first, names.location(position)));
         }
-        run = run_with(names, before, position);
     }
     first
 }

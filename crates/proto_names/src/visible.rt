@@ -22,7 +22,7 @@ pub(crate) enum Role {
 
 impl Role {
     /// Whether what a name is declared for fits. A package, which is declared for nothing, is a scope.
-    fn fits(self, kind: Option<NameKind>) -> bool
+    pub(crate) fn fits(self, kind: Option<NameKind>) -> bool
         ensures { result ≡ fits self kind }
     {
         match kind {

@@ -12,7 +12,7 @@ loop-position-preserved c =
     let at : n + 1 - 1 ≡ n = omega arith in
     let passed = c.loop-position.invariant.passed in
     record {
-      run = λ some. rw at c.run_with-run.ensures;
+      run = λ some. rw at c.run_at-run.ensures;
       passed = (elim c.if-is_twice.branch [
         | then-is_twice w ↦ rw w.first-is
             (passed_twice os n c.loop-position.first passed w.location.result w.lesser.result (sym w.location.ensures)

@@ -5,6 +5,6 @@ use Rattle.proto_names.proofs.twice.first_twice.Given as goal
 
 abbrev pub invariant-loop-position : goal.invariant-loop-position
 invariant-loop-position l = record {
-  run : 0 < l.position → IsRun l.names (l.position - 1) l.position l.run.start l.run.has_element;
+  run : 0 < l.position → IsRun l.names (l.position - 1) (l.position - 1) l.run.start l.run.has_element;
   passed : Passed l.names l.position l.first;
 }

@@ -2,12 +2,12 @@ use Rattle.std.proofs.Common.{arith}
 use Rattle.std.proofs.lemmas.Grind.{common_steps}
 use Rattle.std.proofs.lemmas.List.{drop-map, take_rest}
 use Rattle.std.proofs.lemmas.List.Elements.{All-drop}
-use Rattle.proto_names.specs.Entries.{IsEntryOf}
+use Rattle.proto_names.specs.Keys.{IsKeyAmong}
 use Rattle.proto_names.proofs.names.Names.skip.Goals as goal
 
 pub invariant_of-result : goal.invariant_of-result
-invariant_of-result c = rw (take_rest c.self.inside.entries.now c.args.count)
-    (All-drop (IsEntryOf c.self.inside.text.now) _ _ c.self.invariant)
+invariant_of-result c = rw (take_rest c.self.inside.keys.now c.args.count)
+    (All-drop (IsKeyAmong c.self.inside.entries.now) _ _ c.self.invariant)
 
 pub returns : goal.returns
 returns c = grind (arith, common_steps, drop-map, take_rest)

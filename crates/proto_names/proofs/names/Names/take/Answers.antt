@@ -2,11 +2,11 @@ use Rattle.std.proofs.Common.{arith}
 use Rattle.std.proofs.lemmas.Grind.{common_steps}
 use Rattle.std.proofs.lemmas.List.{take-map}
 use Rattle.std.proofs.lemmas.List.Elements.{All-take}
-use Rattle.proto_names.specs.Entries.{IsEntryOf}
+use Rattle.proto_names.specs.Keys.{IsKeyAmong}
 use Rattle.proto_names.proofs.names.Names.take.Goals as goal
 
 pub invariant_of-result : goal.invariant_of-result
-invariant_of-result c = All-take (IsEntryOf c.self.inside.text.now) _ _ c.self.invariant
+invariant_of-result c = All-take (IsKeyAmong c.self.inside.entries.now) _ _ c.self.invariant
 
 pub returns : goal.returns
 returns c = grind (arith, common_steps, take-map)

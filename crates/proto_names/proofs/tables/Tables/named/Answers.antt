@@ -1,24 +1,11 @@
-use Rattle.std.proofs.Common.{◌≡◌, ◌∙◌, arith, ◌%◌, length}
-use Rattle.std.proofs.lemmas.Nat.{mod_below}
-use Rattle.std.proofs.lemmas.Option.{slice_get_read}
+use Rattle.std.proofs.Common.{◌∙◌, ap, sym}
 use Rattle.proto_names.specs.Hashes.{hash_of}
-use Rattle.proto_names.proofs.Tabled.{among_all, among_one}
 use Rattle.proto_names.proofs.tables.Tables.named.Goals as goal
 
 pub returns-clause-found : goal.returns-clause-found
 returns-clause-found c o within =
-    let tables = c.self.inside.tables.items in
-    let len : c.len.result ≡ length tables = c.len.ensures ∙ c.self.inside.tables.ok.0 in
-    let w = c.named.ensures.found o within in
-    let here = slice_get_read tables c.len.result _ _ len
-    (mod_below c.hash_with-hash.result c.len.result (omega (arith, c.self.invariant.some))) c.index.ensures in
-    (rw c.self.view_is at (among_all tables _ _ o here w.0), w.1)
+    let w = c.named.ensures.found o within in (c.with_hash.ensures.found o w.0, w.1)
 
 pub returns-clause-all : goal.returns-clause-all
 returns-clause-all c o within name =
-    let tables = c.self.inside.tables.items in
-    let len : c.len.result ≡ length tables = c.len.ensures ∙ c.self.inside.tables.ok.0 in
-    let here = slice_get_read tables c.len.result _ _ len
-    (mod_below c.hash_with-hash.result c.len.result (omega (arith, c.self.invariant.some))) c.index.ensures in
-    let key : hash_of o.name % length tables ≡ c.hash_with-hash.result % c.len.result = cc c.hash_with-hash.ensures in
-    c.named.ensures.all o (among_one tables _ _ o c.self.invariant here key (rw c.self.view_is within)) name
+    c.named.ensures.all o (c.with_hash.ensures.all o within (ap hash_of name ∙ sym c.hash_with-hash.ensures)) name

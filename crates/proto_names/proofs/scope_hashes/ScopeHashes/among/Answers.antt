@@ -1,0 +1,29 @@
+use Rattle.std.proofs.Common.{◌∙◌, ◌<◌, ap, sym, arith, length}
+use Rattle.std.proofs.lemmas.Bool.{true≢false}
+use Rattle.proto_names.specs.Resolution.{is_scope}
+use Rattle.proto_names.proofs.TellingScopes.{tells_kept, tells_more}
+use Rattle.proto_names.proofs.scope_hashes.ScopeHashes.among.Goals as goal
+use Rattle.proto_names.proofs.scope_hashes.ScopeHashes.among.Goals.{then-fits, else-fits}
+
+pub loop-position-preserved : goal.loop-position-preserved
+loop-position-preserved c =
+    let os = c.args.entries.now in
+    let k = c.loop-position.position in
+    let (row, room, told) = c.loop-position.invariant in
+    let inside : k < length os = omega (arith, c.len-position-end.ensures, c.loop-position-test.true) in
+    elim c.if-fits.branch [
+      | then-fits w ↦
+          let put = rw (w.slot_of.ensures.slot, w.hash.ensures) at w.insert.ensures in
+          rw w.bits-is (
+            rw put.large.rows row,
+            rw put.large.width room,
+            tells_more os k _ _ _ inside (omega arith) room put told,
+          )
+      | else-fits w ↦
+          rw w.bits-is (
+            row,
+            room,
+            tells_kept os k _ c.loop-position.bits inside
+                (λ is. true≢false (sym is ∙ ap is_scope (sym c.kind.ensures) ∙ sym c.fits.ensures ∙ w.if-fits.false)) told,
+          )
+    ]

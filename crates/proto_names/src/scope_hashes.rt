@@ -1,0 +1,47 @@
+//! The hashes of the names of scopes. Most names that are looked up are no scope's, and a bit tells so.
+
+ghost use Rattle.std.specs.Prelude.{◌≡◌, ◌<◌, ◌≤◌, IfOk, length};
+ghost use Rattle.bit_matrix.specs.Changes.{columns_of};
+ghost use Rattle.proto_names.specs.ScopeHashes.{TellsScopes, tells};
+
+use crate::entries::Entries;
+use crate::starts::slot_of;
+use crate::visible::Role;
+use bit_matrix::BitMatrix;
+use std::alloc::{AllocError, Global};
+
+/// A row of bits, in which the slots of these hashes are set.
+#[derive(Drop)]
+pub(crate) struct ScopeHashes {
+    bits: BitMatrix,
+    slots: usize,
+    ghost row: { 0 < bits.rows },
+    ghost some: { 0 < slots },
+    ghost few: { slots < 4_294_967_296 },
+    ghost columns: { slots ≤ columns_of bits },
+}
+
+impl ScopeHashes {
+    /// The hashes of the scopes among entries.
+    pub(crate) fn among(alloc: Global, entries: &Entries) -> Result<ScopeHashes, AllocError>
+        requires { length entries.now ≤ 1_048_576 }
+        ensures { IfOk result (λ hashes. TellsScopes entries.now hashes.bits hashes.slots) }
+    {
+        let slots = 2 * entries.len() + 1;
+        let mut bits = BitMatrix::new(alloc, slots);
+        bits.push_row()?;
+        for position in 0..entries.len() {
+            if Role::Scope.fits(entries.kind(position)) {
+                bits.insert(0, slot_of(slots, entries.hash(position)));
+            }
+        }
+        Ok(ScopeHashes { bits, slots })
+    }
+
+    /// Whether a scope may have a name of this hash.
+    pub(crate) fn tells(&self, hash: u32) -> bool
+        ensures { result ≡ tells self.now.bits self.now.slots hash }
+    {
+        self.bits.contains(0, slot_of(self.slots, hash))
+    }
+}
