@@ -27,7 +27,7 @@ impl ScopeHashes {
         requires { length entries.now ≤ 1_048_576 }
         ensures { IfOk result (λ hashes. TellsScopes entries.now hashes.bits hashes.slots) }
     {
-        let slots = 2 * entries.len() + 1;
+        let slots = entries.len() + 1;
         let mut bits = BitMatrix::new(alloc, slots);
         bits.push_row()?;
         for position in 0..entries.len() {

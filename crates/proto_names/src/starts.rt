@@ -46,7 +46,7 @@ pub(crate) fn starts_of(alloc: Global, names: &Names) -> Result<Starts, AllocErr
     requires many { length names.now ≤ 1_048_576 }
     ensures { IfOk result (λ starts. AreStarts names.now starts.counts.items) }
 {
-    let count = 2 * names.len() + 1;
+    let count = names.len() / 4 + 1;
     let mut counts = Vec::with_capacity(alloc, count + 1)?;
     for position in 0..names.len() {
         let slot = slot_of(count, names.hash(position));
