@@ -40,13 +40,17 @@ fn fill_to(counts: &mut Vec<u32>, len: usize, number: u32) -> Result<(), AllocEr
     Ok(())
 }
 
-/// Where the slots of entries begin. There are more slots than entries, so that most have one entry or none.
+/// How many entries there are for each slot.
+const ENTRIES_IN_A_SLOT: usize = 4;
+
+/// Where the slots of entries begin. The keys of a slot's entries share a line of the processor's memory, and
+/// the slots take little of it.
 pub(crate) fn starts_of(alloc: Global, names: &Names) -> Result<Starts, AllocError>
     requires order { AreInHashOrder names.now }
     requires many { length names.now ≤ 1_048_576 }
     ensures { IfOk result (λ starts. AreStarts names.now starts.counts.items) }
 {
-    let count = names.len() / 4 + 1;
+    let count = names.len() / ENTRIES_IN_A_SLOT + 1;
     let mut counts = Vec::with_capacity(alloc, count + 1)?;
     for position in 0..names.len() {
         let slot = slot_of(count, names.hash(position));
