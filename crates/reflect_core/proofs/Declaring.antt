@@ -1,5 +1,5 @@
 -- What an index finds, as what a compilation declares.
-use Rattle.std.proofs.Common.{◌≡◌, ℕ, List, Some, sym, subst, ◌∙◌}
+use Rattle.std.proofs.Common.{◌≡◌, ℕ, List, Some, sym, ◌∙◌}
 use Rattle.std.specs.Prelude.{Contains}
 use Rattle.std.proofs.lemmas.Option.{none-some}
 use Rattle.proto_compile.specs.Compilation.{Compilation}
@@ -21,7 +21,7 @@ pub found_is : (c : Compilation) (index : Index) (name : List ℕ) (d : Defined)
 found_is c index name d is w = record {
   occurrence = w.0;
   declares = record {
-    declared = subst (λ (x : Index). Contains x.occurrences w.0) is w.1;
+    declared = rw (← is) w.1;
     named = w.2;
     element = λ none. none-some d.kind (sym none ∙ w.3);
   };
@@ -32,14 +32,11 @@ found_is c index name d is w = record {
 pub none_is : (c : Compilation) (index : Index) (name : List ℕ) → index ≡ c.index
     → ((o : Occurrence) → Contains index.occurrences o → o.name ≡ name → IsPackage o) → (o : Occurrence)
     → Declares c name o → ⊥
-none_is c index name is all o d =
-    d.element (all o (subst (λ (x : Index). Contains x.occurrences o) (sym is) d.declared) d.named)
+none_is c index name is all o d = d.element (all o (rw is d.declared) d.named)
 
 -- two elements of one name are one
 pub one_is : (c : Compilation) (index : Index) (name : List ℕ) → index ≡ c.index → AreDeclaredOnce index
     → (o p : Occurrence) → Declares c name o
     → Declares c name p → o ≡ p
 one_is c index name is once o p d e =
-    once.one o p (subst (λ (x : Index). Contains x.occurrences o) (sym is) d.declared)
-    (subst (λ (x : Index). Contains x.occurrences p) (sym is) e.declared)
-    (d.named ∙ sym e.named) d.element
+    once.one o p (rw is d.declared) (rw is e.declared) (d.named ∙ sym e.named) d.element

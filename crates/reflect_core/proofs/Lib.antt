@@ -7,7 +7,6 @@ mod ReplyParts
 mod ReadBounds
 mod Carrying
 mod Short
-mod Framing
 mod RepliesMore
 mod AnsweringBody
 pub mod OneResponse

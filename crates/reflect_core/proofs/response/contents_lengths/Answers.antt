@@ -1,10 +1,9 @@
-use Rattle.reflect_core.proofs.RepliesMore.{has_contents, replyable_at}
+use Rattle.std.proofs.Common.{◌∙◌, ap}
+use Rattle.reflect_core.specs.ResponseSteps.{files_of}
+use Rattle.reflect_core.proofs.RepliesMore.{contents_at}
 use Rattle.reflect_core.proofs.response.contents_lengths.Goals as goal
 
 pub contents_len-requires : goal.contents_len-requires
 contents_len-requires c =
-    has_contents c.args.material.compiled.now c.args.material.services.now _ c.as_slice-files.result.now
-    (replyable_at c.args.material.compiled.now c.args.material.services.now c.args.asked.now c.args.carried.now
-    c.loop-position.position _ _
-    c.as_slice-files.result.now c.requires c.loop-position-test.true c.as_slice-files.ensures.value
-    c.index-carried-position.is)
+    contents_at _ _ _ _ c.loop-position.position _ c.index-carried-position.result _ c.requires
+    c.loop-position-test.true (c.as_slice-files.ensures.value ∙ ap files_of c.index-carried-position.is)
