@@ -1,58 +1,39 @@
 -- What the steps of an answer give, as the response to a body.
-use Rattle.std.proofs.Common.{◌≡◌, ◌∙◌, ℕ, zero, suc, ◌<◌, ◌≤◌, List, [], ◌∷◌, length, map, get_or, sym, ap, arith, refl, All, Bool, filter, inl, inr}
-use Rattle.std.specs.Prelude.{Option, Some, None, Contains, slice_get, Vec}
+use Rattle.std.proofs.Common.{◌≡◌, ℕ, zero, suc, ◌<◌, ◌≤◌, List, [], ◌∷◌, ◌++◌, length, map, get_or, ap, arith, refl, All, Bool, filter, inl, inr, not, ◌||◌}
+use Rattle.std.specs.Set.{is_member}
+use Rattle.std.specs.Prelude.{Option, Some, None, Contains, Vec, ◌==◌}
 use Rattle.std.specs.List.{AllZip}
 use Rattle.std.specs.declared.alloc.Global.{Global}
 use Rattle.std.proofs.lemmas.List.{length-map}
-use Rattle.std.proofs.lemmas.List.Elements.{All-contains}
-use Rattle.std.proofs.lemmas.Option.{same_Some, slice_get-get_or, slice_get-map}
+use Rattle.std.proofs.lemmas.List.Elements.{All-head, All-map, All-tail}
+use Rattle.std.proofs.lemmas.Slice.Zip.{AllZip-long}
 use Rattle.std.proofs.lemmas.Bool.{cases_lt}
-use Rattle.first_reach.specs.Carried.{carried, root_first}
+use Rattle.first_reach.specs.Carried.{carried, carried_from, reached, repeats, root_first}
 use Rattle.first_reach.specs.declared.mode.Mode.{Mode}
-use Rattle.first_reach.proofs.Replies.{carried_length}
 use Rattle.proto_base.specs.Limits.{limit_of}
 use Rattle.proto_base.specs.declared.limits.Limit.TheVariants as limit
 use Rattle.proto_compile.specs.Compilation.{Compilation, bytes_at}
 use Rattle.wire_format.specs.Field.{bytes_field}
 use Rattle.proto_links.specs.Linked.{count_of, reach_of}
 use Rattle.reflect_requests.specs.Frames.{IsAllowed, ReadsBody}
-use Rattle.reflect_core.specs.Reply.{Asked, files_bytes, reply}
+use Rattle.reflect_core.specs.Reply.{Asked, files_bytes, services_bytes}
 use Rattle.reflect_core.specs.Response.{IsAsked, root}
-use Rattle.reflect_core.specs.ResponseSteps.{HoldsReplies, AreReplyable, AreServicesFor, IsRootWithin, asked_of, files_of}
+use Rattle.reflect_core.specs.ResponseSteps.{HoldsReplies, AreReplyable, AreServicesFor, IsReplyable, IsRootWithin, asked_of, files_of}
 use Rattle.reflect_core.specs.declared.asked.Asked as rust
-use Rattle.reflect_core.proofs.Carrying.{kept_of, carried_short, carried_inside}
+use Rattle.reflect_core.proofs.Carrying.{carried_short, carried_inside}
 use Rattle.reflect_core.proofs.ReadBounds.{read_bounds}
 use Rattle.reflect_core.proofs.Short.{answer_bound, reply_short}
 
--- the request at a position, and what is known of it
-record IsAskedAt (c : Compilation) (messages : List (List ℕ)) (xs : List rust.Asked) (k : ℕ)
-    (a : rust.Asked) : Type 0 where
-  pub message : List ℕ
-  pub listed : Contains messages message
-  pub asked : IsAsked c message (asked_of (get_or xs k a))
+abbrev pub IsGood : Compilation → Asked → List ℕ → Type 0
+IsGood c = IsReplyable c (services_bytes c)
 
-asked_at : (c : Compilation) (messages : List (List ℕ)) (xs : List rust.Asked) (k : ℕ) (a : rust.Asked)
-    → AllZip (IsAsked c) messages (map asked_of xs)
-    → k < length xs → IsAskedAt c messages xs k a
-asked_at c messages [] k a all below = absurd (omega arith)
-asked_at c [] (x ∷ xs) k a all below = absurd all
-asked_at c (m ∷ ms) (x ∷ xs) zero a all below = record { message = m; listed = (0, omega arith, refl); asked = all.0 }
-asked_at c (m ∷ ms) (x ∷ xs) (suc k) a all below =
-    let rest = asked_at c ms xs k a all.1 (omega arith) in
-    record {
-      message = rest.message;
-      listed = (suc rest.listed.0, (let h = rest.listed.1 in omega arith), rest.listed.2);
-      asked = rest.asked;
-    }
-
--- what is carried at a position
-files_at : (ys : List (Vec ℕ Global)) (k : ℕ) (f : Vec ℕ Global) → k < length ys
-    → slice_get (map files_of ys) k ≡ Some (get_or ys k f).items
-files_at ys k f below = rw (slice_get-map, slice_get-get_or ys k f below) refl
-
-root_is : (xs : List rust.Asked) (k : ℕ) (a : rust.Asked) → k < length xs
-    → slice_get (map root (map asked_of xs)) k ≡ Some (root (asked_of (get_or xs k a)))
-root_is xs k a below = rw (slice_get-map, slice_get-map, slice_get-get_or xs k a below) refl
+good_at : (c : Compilation) (xs : List rust.Asked) (ys : List (Vec ℕ Global)) (k : ℕ) (a : rust.Asked)
+    (f : Vec ℕ Global) → AllZip (IsGood c) (map asked_of xs) (map files_of ys) → k < length xs
+    → IsGood c (asked_of (get_or xs k a)) (get_or ys k f).items
+good_at c (x ∷ xs) (y ∷ ys) zero a f good below = good.0
+good_at c (x ∷ xs) (y ∷ ys) (suc k) a f good below = good_at c xs ys k a f good.1 (omega arith)
+good_at c [] ys k a f good below = absurd (omega arith)
+good_at c (x ∷ xs) [] k a f good below = absurd good
 
 module _ (c : Compilation) (holds : HoldsReplies c) where
   inside_of : (kept : ℕ → Bool) (root : Option ℕ) → IsRootWithin (count_of c.links) root
@@ -71,16 +52,33 @@ module _ (c : Compilation) (holds : HoldsReplies c) where
       (holds.whole.itself r below) in
       omega (arith, most, holds.reached r below, holds.sound.within, c.limits.set_bytes_bound)
 
-  -- a reply to an allowed message has room in a frame
-  pub one_short : (message : List ℕ) (x : Asked) (kept : ℕ → Bool) → IsAllowed c.limits message → IsAsked c message x
-      → IsRootWithin (count_of c.links) (root x)
-      → length (reply c x (filter kept (root_first (reach_of c.links) (root x)))) < 4294967296
-  one_short message x kept allowed asked within =
+  good_one : (message : List ℕ) (x : Asked) (kept : ℕ → Bool) → IsAllowed c.limits message → IsAsked c message x
+      → IsRootWithin (count_of c.links) (root x) → IsGood c x (filter kept (root_first (reach_of c.links) (root x)))
+  good_one message x kept allowed asked within =
       let bounds = read_bounds message x.host asked.ask asked.reads in
       let most = c.limits.message_bytes_bound in let short = allowed.short in
       let same = ap length asked.same in
       let name = answer_bound c asked.ask x.answer asked.answered in
-      reply_short c x _ holds.sound (omega arith) (omega arith) (omega arith) (files_short kept (root x) within)
+      record {
+        listed = λ e. refl;
+        inside = inside_of kept (root x) within;
+        short = reply_short c x _ holds.sound (omega arith) (omega arith) (omega arith)
+            (files_short kept (root x) within);
+      }
+
+  pub all_good : (mode : Mode) (sent : List ℕ) (messages : List (List ℕ)) (xs : List Asked)
+      → All (λ x. IsRootWithin (count_of c.links) (root x)) xs
+      → All (IsAllowed c.limits) messages → AllZip (IsAsked c) messages xs
+      → AllZip (IsGood c) xs (carried_from mode (reach_of c.links) sent (map root xs))
+  all_good mode sent [] [] within allowed asked = tt
+  all_good mode sent (m ∷ ms) (x ∷ xs) within allowed asked = (
+    good_one m x (λ g. repeats mode (root x) g || not (is_member ◌==◌ sent g))
+        (All-head (IsAllowed c.limits) m ms allowed) asked.0 (within 0 x (omega arith)),
+    all_good mode (sent ++ reached (reach_of c.links) (root x)) ms xs
+        (All-tail (λ x. IsRootWithin (count_of c.links) (root x)) x xs within)
+        (All-tail (IsAllowed c.limits) m ms allowed) asked.1,
+  )
+  all_good mode sent ms xs within allowed asked = absurd asked
 
   pub replyable : (messages : List (List ℕ)) (xs : List rust.Asked) (ys : List (Vec ℕ Global))
       (services : List ℕ) (mode : Mode)
@@ -89,30 +87,13 @@ module _ (c : Compilation) (holds : HoldsReplies c) where
       → map files_of ys ≡ carried mode (reach_of c.links) (map root (map asked_of xs)) → AreServicesFor c xs services
       → AreReplyable c services xs ys
   replyable messages xs ys services mode allowed asked within lists listed =
-      let roots = map root (map asked_of xs) in
-      let size : length ys ≡ length xs = omega (
-        arith,
-        length-map ys files_of,
-        ap length lists,
-        carried_length mode (reach_of c.links) [] roots,
-        length-map (map asked_of xs) root,
-        length-map xs asked_of,
-      ) in
+      let good : AllZip (IsGood c) (map asked_of xs) (map files_of ys) = rw lists (all_good mode [] messages _
+      (All-map (λ x. IsRootWithin (count_of c.links) (root x)) asked_of xs within) allowed asked) in
       record {
-        size = size;
+        size = omega (arith, AllZip-long (IsGood c) _ _ good, length-map ys files_of, length-map xs asked_of);
         each = λ k a f below.
-            let here = asked_at c messages xs k a asked below in
-            let small = All-contains (IsAllowed c.limits) messages here.message allowed here.listed in
-            let own = kept_of mode (reach_of c.links) [] roots k (get_or ys k f).items
-            (rw (← lists) (files_at ys k f (omega arith))) in
-            let root_here : own.root ≡ root (asked_of (get_or xs k a)) =
-            same_Some _ _ (sym own.at ∙ root_is xs k a below) in
-            let is = rw root_here at own.is in
-            record {
-              listed = listed k a below;
-              inside = rw is (inside_of own.kept _ (within k a below));
-              short = rw is (one_short here.message _ own.kept small here.asked (within k a below));
-            };
+            let here = good_at c xs ys k a f good below in
+            record { listed = listed k a below; inside = here.inside; short = here.short };
       }
 
 -- the messages of a body are allowed

@@ -1,29 +1,12 @@
 -- The files of a reply: files of the compilation, and no more bytes than the set.
-use Rattle.std.proofs.Common.{◌≡◌, ℕ, zero, suc, ◌+◌, ◌≤◌, List, [], ◌∷◌, ◌++◌, length, sym, ap, arith, length-append, refl, Bool, not, eqb, eq-eqb, filter}
-use Rattle.std.specs.Prelude.{Option, Some, flat_map, Contains, slice_get}
+use Rattle.std.proofs.Common.{ℕ, zero, suc, ◌+◌, ◌≤◌, List, ◌∷◌, length, ap, arith, length-append, refl, Bool, not, eqb, eq-eqb, filter}
+use Rattle.std.specs.Prelude.{Some, flat_map, Contains}
 use Rattle.std.proofs.lemmas.List.Concat.{length-flat_map}
 use Rattle.std.proofs.lemmas.List.Filters.{sum_by-filter_both}
 use Rattle.std.proofs.lemmas.List.Sums.{get_or-le-sum_by}
-use Rattle.std.proofs.lemmas.Option.{none-some, same_Some}
-use Rattle.first_reach.specs.Carried.{carried_from, reached, root_first}
-use Rattle.first_reach.specs.declared.mode.Mode.{Mode}
+use Rattle.first_reach.specs.Carried.{root_first}
 use Rattle.proto_compile.proofs.Within.{some_of}
 use Rattle.proto_links.proofs.Whole.{kept_from, kept_to}
-
-pub record IsKept (reach : ℕ → List ℕ) (roots : List (Option ℕ)) (k : ℕ) (files : List ℕ) : Type 0 where
-  pub root : Option ℕ
-  pub at : slice_get roots k ≡ Some root
-  pub kept : ℕ → Bool
-  pub is : files ≡ filter kept (root_first reach root)
-
-pub kept_of : (mode : Mode) (reach : ℕ → List ℕ) (sent : List ℕ) (roots : List (Option ℕ)) (k : ℕ) (files : List ℕ)
-    → slice_get (carried_from mode reach sent roots) k ≡ Some files → IsKept reach roots k files
-kept_of mode reach sent [] k files e = absurd (none-some files e)
-kept_of mode reach sent (root ∷ roots) zero files e =
-    record { root = root; at = refl; kept = _; is = sym (same_Some _ _ e) }
-kept_of mode reach sent (root ∷ roots) (suc k) files e =
-    let rest = kept_of mode reach (sent ++ reached reach root) roots k files e in
-    record { root = rest.root; at = rest.at; kept = rest.kept; is = rest.is }
 
 module _ (f : ℕ → List ℕ) where
   moved_short : (r : ℕ) (xs : List ℕ) → Contains xs r

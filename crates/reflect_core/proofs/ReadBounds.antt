@@ -29,7 +29,8 @@ module _ {A : Type 0} (size : A → ℕ) (f : ℕ × Value → Option A) (most :
       → size (last_of x (filter_map f (filter_map entry_of row))) ≤ most
   last_within [] x here long = here
   last_within (s ∷ row) x here long =
-      let split = length-append (text_of s) (flat_map text_of row) in let own = length-append s.tag (body_text s.body) in
+      let split = length-append (text_of s) (flat_map text_of row) in
+      let own = length-append s.tag (body_text s.body) in
       last_go s _ x here (omega arith) (λ y h. last_within row y h (omega arith)) s.body refl
 
 abbrev pub ask_size : Ask → ℕ
@@ -46,18 +47,12 @@ host_bound (n, value) a is = grind (arith, common_steps)
 member_bound : (e : ℕ × Value) (a : Ask) → member_of e ≡ Some a → ask_size a ≤ value_len e
 member_bound (n, value) a is = grind (arith, common_steps)
 
-pub record IsBounded (message host : List ℕ) (asked : Ask) : Type 0 where
-  pub short_host : length host ≤ length message
-  pub short_ask : ask_size asked ≤ length message
-
-pub read_bounds : (message host : List ℕ) (asked : Ask) → ReadsRequest message host asked → IsBounded message host asked
-read_bounds message host asked reads =
-    let row = reads.row.0 in
-    let whole = ap (λ (l : List ℕ). length l) reads.row.2 in
-    let hosts = last_within (λ (l : List ℕ). length l) host_of (length message) host_bound row [] (omega arith)
+pub read_bounds : (message host : List ℕ) (ask : Ask) → ReadsRequest message host ask
+    → (length host ≤ length message) × (ask_size ask ≤ length message)
+read_bounds message host ask reads =
+    let whole = ap length reads.row.2 in
+    let hosts = last_within (λ (l : List ℕ). length l) host_of (length message) host_bound reads.row.0 [] (omega arith)
     (omega arith) in
-    let asks = last_within ask_size member_of (length message) member_bound row nothing (omega arith) (omega arith) in
-    record {
-      short_host = rw (reads.host_is, reads.row.3) hosts;
-      short_ask = rw (reads.asked_is, reads.row.3) asks;
-    }
+    let asks = last_within ask_size member_of (length message) member_bound reads.row.0 nothing (omega arith)
+    (omega arith) in
+    (rw (reads.host_is, reads.row.3) hosts, rw (reads.asked_is, reads.row.3) asks)

@@ -2,14 +2,19 @@
 use Rattle.std.proofs.Common.{◌≡◌, ℕ, zero, suc, ◌+◌, ◌<◌, List, [], ◌∷◌, ◌++◌, length, map, take, get_or, ap, arith, refl, add-one, append-nil}
 use Rattle.std.specs.Prelude.{flat_map, Vec}
 use Rattle.std.specs.declared.alloc.Global.{Global}
+use Rattle.std.proofs.lemmas.Grind.{common_steps}
 use Rattle.std.proofs.lemmas.List.Concat.{flat_map-append}
 use Rattle.proto_compile.specs.Compilation.{Compilation}
-use Rattle.reflect_core.specs.Reply.{reply}
+use Rattle.reflect_core.specs.Reply.{Asked, contents_of, reply}
 use Rattle.reflect_core.specs.Response.{replies_to}
 use Rattle.reflect_core.specs.ResponseSteps.{AreContentsLengths, AreReplyable, HasContents, asked_of, files_of, reply_size}
 use Rattle.reflect_core.specs.declared.asked.Asked as rust
 use Rattle.reflect_requests.specs.Frames.{frame}
-use Rattle.reflect_core.proofs.ReplyParts.{reply_length}
+
+-- how long a reply is, part by part
+pub reply_length : (c : Compilation) (asked : Asked) (files : List ℕ)
+    → length (reply c asked files) ≡ reply_size asked (length (contents_of c files asked.answer))
+reply_length c asked files = grind (arith, common_steps)
 
 abbrev pub prefix : Compilation → ℕ → List rust.Asked → List (Vec ℕ Global) → List (List ℕ)
 prefix c k xs ys = replies_to c (map asked_of (take k xs)) (map files_of (take k ys))
@@ -52,9 +57,5 @@ pub short_at : (c : Compilation) (services : List ℕ) (xs : List rust.Asked) (y
     → reply_size (asked_of (get_or xs k a)) (get_or lengths k n) < 4294967296
 short_at c services xs [] lengths k n a all are below = absurd (let size = all.size in omega arith)
 short_at c services xs (y ∷ ys) lengths k n a all are below =
-    rw (are.each k n a y below) (omega (
-      arith,
-      (all.each k a y below).short,
-      reply_length c (asked_of (get_or xs k a))
-          (get_or (y ∷ ys) k y).items,
-    ))
+    let whole = reply_length c (asked_of (get_or xs k a)) (get_or (y ∷ ys) k y).items in
+    rw (are.each k n a y below) (omega (arith, (all.each k a y below).short, whole))

@@ -1,6 +1,8 @@
 -- Replies have room in a frame.
-use Rattle.std.proofs.Common.{ℕ, suc, ◌+◌, ◌*◌, ◌<◌, ◌≤◌, List, [], ◌∷◌, length, ap, arith, length-append, refl}
-use Rattle.std.specs.Prelude.{flat_map, Contains}
+use Rattle.std.proofs.Common.{ℕ, ◌+◌, ◌<◌, ◌≤◌, List, [], ◌∷◌, length, get_or, ap, arith, length-append}
+use Rattle.std.proofs.lemmas.List.Concat.{length-flat_map}
+use Rattle.std.proofs.lemmas.List.Elements.{Contains-get_or}
+use Rattle.std.proofs.lemmas.List.Sums.{sum_by-le}
 use Rattle.proto_compile.specs.Compilation.{Compilation}
 use Rattle.proto_compile.specs.Sound.{IsSound}
 use Rattle.wire_format.specs.Field.{bytes_field}
@@ -10,29 +12,24 @@ use Rattle.reflect_core.specs.Answer.{Answer, IsAnswer, file, no_extensions, ser
 use Rattle.reflect_core.specs.Reply.{Asked, contents_of, files_bytes, services_bytes, host_field, reply}
 use Rattle.reflect_core.proofs.Constants.{not_found_is, empty_request_is}
 use Rattle.reflect_core.proofs.ReadBounds.{ask_size}
-use Rattle.reflect_core.proofs.ReplyParts.{reply_length}
+use Rattle.reflect_core.proofs.RepliesMore.{reply_length}
 
 field_short : (n : ℕ) (text : List ℕ) → length (bytes_field n text) ≤ 20 + length text
 field_short n text = grind (arith, length-append, varint_short)
 
-abbrev pub service : List ℕ → List ℕ
-service name = bytes_field 1 (bytes_field 1 name)
-
-list_short : (most : ℕ) (names : List (List ℕ)) → ((name : List ℕ) → Contains names name → length name ≤ most)
-    → length (flat_map service names) ≤ (40 + most) * length names
-list_short most [] all = omega arith
-list_short most (name ∷ names) all =
-    let sum = length-append (service name) (flat_map service names) in
-    let inner = field_short 1 name in let outer = field_short 1 (bytes_field 1 name) in
-    let own = all name (0, omega arith, refl) in
-    let rest = list_short most names (λ n w. all n (suc w.0, (let h = w.1 in omega arith), w.2)) in
-    grind (arith, sum, inner, outer, own, rest)
-
-pub services_short : (c : Compilation) → IsSound c → length (services_bytes c) ≤ 1114636288
+services_short : (c : Compilation) → IsSound c → length (services_bytes c) ≤ 1114636288
 services_short c sound =
-    let list = list_short 1023 c.index.services
-    (λ name w. omega (arith, sound.short_services name w, c.limits.full_name_bytes_bound)) in
-    omega (arith, list, sound.few_services, c.limits.names_bound)
+    let service : List ℕ → List ℕ = λ name. bytes_field 1 (bytes_field 1 name) in
+    let list = sum_by-le (λ name. length (service name)) 1063 c.index.services (λ k d h.
+    let name = get_or c.index.services k d in
+    omega (
+      arith,
+      sound.short_services name (Contains-get_or c.index.services k d h),
+      field_short 1 name,
+      field_short 1 (bytes_field 1 name),
+      c.limits.full_name_bytes_bound,
+    )) in
+    omega (arith, list, length-flat_map service c.index.services, sound.few_services, c.limits.names_bound)
 
 -- how long the name is that an answer holds
 abbrev pub answer_size : Answer → ℕ
@@ -65,4 +62,11 @@ pub reply_short : (c : Compilation) (asked : Asked) (files : List ℕ) → IsSou
     → length (files_bytes c files) ≤ 1073741824 → length (reply c asked files) < 4294967296
 reply_short c asked files sound small host size short =
     let contents = contents_short c files asked.answer sound short (omega arith) in
-    omega (arith, reply_length c asked files, host_short asked.host, field_short 2 asked.message, contents, varint_short)
+    omega (
+      arith,
+      reply_length c asked files,
+      host_short asked.host,
+      field_short 2 asked.message,
+      contents,
+      varint_short,
+    )

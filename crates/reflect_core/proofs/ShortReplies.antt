@@ -1,24 +1,20 @@
 -- Every reply to the requests of a body has room in a frame.
-use Rattle.std.proofs.Common.{ℕ, ◌<◌, List, [], ◌∷◌, ◌++◌, length, map, sym, subst, arith, All, not, ◌||◌}
-use Rattle.std.specs.Set.{is_member}
-use Rattle.std.specs.Prelude.{◌==◌}
+use Rattle.std.proofs.Common.{◌≡◌, ℕ, ◌<◌, List, [], ◌∷◌, length, sym, subst, arith, All}
 use Rattle.std.specs.List.{AllZip}
-use Rattle.std.proofs.lemmas.List.Elements.{All-cons, All-head, All-nil, All-tail}
-use Rattle.first_reach.specs.Carried.{carried_from, reached, repeats}
+use Rattle.std.proofs.lemmas.List.Elements.{All-cons, All-nil}
 use Rattle.first_reach.specs.declared.mode.Mode.{Mode}
 use Rattle.proto_base.specs.declared.limits.Limits.{Limits}
 use Rattle.proto_compile.specs.Compilation.{Compilation, IsCompiled}
 use Rattle.proto_compile.specs.declared.source.Source.{Source}
 use Rattle.proto_compile.proofs.Making.{sound}
 use Rattle.proto_compile.proofs.Within.{reached_within}
-use Rattle.proto_links.specs.Linked.{count_of, reach_of}
+use Rattle.proto_links.specs.Linked.{count_of}
 use Rattle.proto_links.proofs.Whole.{whole_of}
-use Rattle.reflect_requests.specs.Frames.{IsAllowed}
 use Rattle.reflect_core.specs.Reply.{Asked, reply}
 use Rattle.reflect_core.specs.Response.{IsAsked, IsResponse, replies, replies_to, root}
 use Rattle.reflect_core.specs.ResponseSteps.{HoldsReplies, IsRootWithin}
-use Rattle.reflect_core.proofs.AnsweringBody.{allowed_of, one_short}
-use Rattle.reflect_core.proofs.OneResponse.{is_one, root_inside}
+use Rattle.reflect_core.proofs.AnsweringBody.{IsGood, all_good, allowed_of}
+use Rattle.reflect_core.proofs.OneResponse.{IsOne, is_one, root_inside}
 
 -- of what sources are compiled to
 holds_of : (limits : Limits) (sources : List Source) (c : Compilation) → IsCompiled limits sources c → HoldsReplies c
@@ -34,19 +30,19 @@ holds_of limits sources c of =
 abbrev IsShort : List ℕ → Type 0
 IsShort reply = length reply < 4294967296
 
-module _ (c : Compilation) (holds : HoldsReplies c) where
-  all_short : (mode : Mode) (sent : List ℕ) (messages : List (List ℕ)) (xs : List Asked)
-      → ((message : List ℕ) (x : Asked) → IsAsked c message x → IsRootWithin (count_of c.links) (root x))
-      → All (IsAllowed c.limits) messages → AllZip (IsAsked c) messages xs
-      → All IsShort (replies_to c xs (carried_from mode (reach_of c.links) sent (map root xs)))
-  all_short mode sent [] [] within allowed asked = All-nil IsShort
-  all_short mode sent (m ∷ ms) (x ∷ xs) within allowed asked =
-      All-cons IsShort _ _
-      (one_short c holds m x (λ g. repeats mode (root x) g || not (is_member ◌==◌ sent g))
-      (All-head (IsAllowed c.limits) m ms allowed) asked.0 (within m x asked.0))
-      (all_short mode (sent ++ reached (reach_of c.links) (root x)) ms xs within
-      (All-tail (IsAllowed c.limits) m ms allowed) asked.1)
-  all_short mode sent ms xs within allowed asked = absurd asked
+all_short : (c : Compilation) (xs : List Asked) (lists : List (List ℕ)) → AllZip (IsGood c) xs lists
+    → All IsShort (replies_to c xs lists)
+all_short c [] [] good = All-nil IsShort
+all_short c (x ∷ xs) (l ∷ lists) good = All-cons IsShort _ _ good.0.short (all_short c xs lists good.1)
+all_short c xs lists good = absurd good
+
+roots_inside : (c : Compilation) → IsOne c c → count_of c.links ≡ length c.files → (messages : List (List ℕ))
+    (xs : List Asked) → AllZip (IsAsked c) messages xs → All (λ x. IsRootWithin (count_of c.links) (root x)) xs
+roots_inside c one count [] [] asked = All-nil _
+roots_inside c one count (m ∷ ms) (x ∷ xs) asked = All-cons (λ x. IsRootWithin (count_of c.links) (root x)) _ _
+    (λ r at. omega (arith, root_inside c c one _ x.answer r asked.0.answered at, count))
+    (roots_inside c one count ms xs asked.1)
+roots_inside c one count messages xs asked = absurd asked
 
 pub replies_short : (limits : Limits) (sources : List Source) (c : Compilation) (mode : Mode) (body bytes : List ℕ)
     → IsCompiled limits sources c
@@ -55,7 +51,6 @@ pub replies_short : (limits : Limits) (sources : List Source) (c : Compilation) 
 replies_short limits sources c mode body bytes of response =
     let holds = holds_of limits sources c of in
     let one = is_one limits sources c c of of in
-    all_short c holds mode [] response.messages response.asked
-    (λ message x asked r at.
-    omega (arith, root_inside c c one asked.ask x.answer r asked.answered at, holds.sound.linked))
-    (allowed_of c body response.messages response.status response.read) response.requests
+    let inside = roots_inside c one holds.sound.linked response.messages response.asked response.requests in
+    all_short c response.asked _ (all_good c holds mode [] response.messages response.asked inside
+    (allowed_of c body response.messages response.status response.read) response.requests)

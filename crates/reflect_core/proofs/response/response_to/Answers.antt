@@ -17,6 +17,7 @@ put_frame-requires-clause-len c =
 
 pub loop-position-preserved : goal.loop-position-preserved
 loop-position-preserved c =
-    frames_more c.args.material.compiled.now c.loop-position.position _ _ _ _ _ _ c.index-carried-position.result c.loop-position-test.true
-    (omega (arith, c.requires.size)) (c.as_slice-files.ensures.value ∙ ap files_of c.index-carried-position.is)
-    c.loop-position.invariant c.in_ok-put_frame.ensures
+    frames_more c.args.material.compiled.now c.loop-position.position _ _ _ _ _ _ c.index-carried-position.result
+    c.loop-position-test.true (omega (arith, c.requires.size))
+    (c.as_slice-files.ensures.value ∙ ap files_of c.index-carried-position.is) c.loop-position.invariant
+    c.in_ok-put_frame.ensures

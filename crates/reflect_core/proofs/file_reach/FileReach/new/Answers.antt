@@ -1,13 +1,34 @@
-use Rattle.std.proofs.Common.{arith, ap}
-use Rattle.proto_links.specs.Linked.{Linked, count_of}
-use Rattle.reflect_core.proofs.Few.{few_files}
-use Rattle.reflect_core.proofs.Reaching.{reach_short}
+use Rattle.std.proofs.Common.{◌<◌, length, arith, ap}
+use Rattle.std.specs.Set.{is_member}
+use Rattle.std.specs.Prelude.{◌==◌}
+use Rattle.std.proofs.lemmas.List.Sorted.{length_permutation}
+use Rattle.std.proofs.lemmas.List.Sums.{count_by-le-length, length-filter}
+use Rattle.std.proofs.lemmas.Slice.Zip.{AllZip-long}
+use Rattle.proto_compile.specs.Descriptions.{SourceDescribes}
+use Rattle.proto_links.specs.Linked.{Linked, count_of, reach_of}
 use Rattle.reflect_core.proofs.file_reach.FileReach.new.Goals as goal
 
 pub invariant_of-result : goal.invariant_of-result
 invariant_of-result c =
-    let few = few_files c.args.compiled.now c.is_of_sources.ensures in
-    let same = ap (λ (l : Linked). count_of l) c.links-links.ensures in
-    let most = c.args.compiled.now.limits.files_bound in
+    let compiled = c.args.compiled.now in let links = c.links-links.result.now in
+    let written = c.is_of_sources.ensures.1.written in let analysed = written.resolved.analysed in
+    let described = analysed.described in
+    let same = length_permutation c.is_of_sources.ensures.0 written.sorted described.by_name.all in
+    let long = AllZip-long (SourceDescribes compiled.limits) written.sorted written.resolved.descs described.each in
+    let counted = ap (λ (l : Linked). count_of l) c.links-links.ensures in
+    let few : count_of links < 18446744073709551615 =
+    omega (arith, same, long, analysed.linked.count, described.few, counted, compiled.limits.files_bound) in
     let whole = c.reaches_are_whole.ensures in
-    record { whole = ∣ whole ∣₁; short = reach_short c.links-links.result.now whole (omega (arith, few, same, most)) }
+    record {
+      whole = ∣ whole ∣₁;
+      short = λ a h.
+          let p = is_member ◌==◌ (reach_of links a) in
+          omega (
+            arith,
+            ap length (whole.part a h),
+            length-filter p links.set_order,
+            count_by-le-length p links.set_order,
+            whole.size,
+            few,
+          );
+    }
