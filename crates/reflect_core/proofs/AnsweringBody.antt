@@ -36,21 +36,16 @@ good_at c [] ys k a f good below = absurd (omega arith)
 good_at c (x ∷ xs) [] k a f good below = absurd good
 
 module _ (c : Compilation) (holds : HoldsReplies c) where
-  inside_of : (kept : ℕ → Bool) (root : Option ℕ) → IsRootWithin (count_of c.links) root
-      → (a : ℕ) → Contains (filter kept (root_first (reach_of c.links) root)) a → a < count_of c.links
-  inside_of kept None within a w = absurd (let h = w.1 in omega arith)
-  inside_of kept (Some r) within a w =
-      let below = within r refl in
-      holds.whole.within r a below (carried_inside kept (reach_of c.links) r a (holds.whole.itself r below) w)
-
-  files_short : (kept : ℕ → Bool) (root : Option ℕ) → IsRootWithin (count_of c.links) root
-      → length (files_bytes c (filter kept (root_first (reach_of c.links) root))) ≤ 1073741824
-  files_short kept None within = omega arith
-  files_short kept (Some r) within =
-      let below = within r refl in
-      let most = carried_short (λ a. bytes_field 1 (bytes_at c.files a)) kept (reach_of c.links) r
-      (holds.whole.itself r below) in
-      omega (arith, most, holds.reached r below, holds.sound.within, c.limits.set_bytes_bound)
+  files_good : (kept : ℕ → Bool) (root : Option ℕ) → IsRootWithin (count_of c.links) root
+      → ((a : ℕ) → Contains (filter kept (root_first (reach_of c.links) root)) a → a < count_of c.links)
+      × (length (files_bytes c (filter kept (root_first (reach_of c.links) root))) ≤ 1073741824)
+  files_good kept None within = ((λ a w. absurd (let h = w.1 in omega arith)), omega arith)
+  files_good kept (Some r) within =
+      let below = within r refl in let own = holds.whole.itself r below in
+      let most = carried_short (λ a. bytes_field 1 (bytes_at c.files a)) kept (reach_of c.links) r own in (
+        (λ a w. holds.whole.within r a below (carried_inside kept (reach_of c.links) r a own w)),
+        omega (arith, most, holds.reached r below, holds.sound.within, c.limits.set_bytes_bound),
+      )
 
   good_one : (message : List ℕ) (x : Asked) (kept : ℕ → Bool) → IsAllowed c.limits message → IsAsked c message x
       → IsRootWithin (count_of c.links) (root x) → IsGood c x (filter kept (root_first (reach_of c.links) (root x)))
@@ -59,17 +54,16 @@ module _ (c : Compilation) (holds : HoldsReplies c) where
       let most = c.limits.message_bytes_bound in let short = allowed.short in
       let same = ap length asked.same in
       let name = answer_bound c asked.ask x.answer asked.answered in
+      let files = files_good kept (root x) within in
       record {
         listed = λ e. refl;
-        inside = inside_of kept (root x) within;
-        short = reply_short c x _ holds.sound (omega arith) (omega arith) (omega arith)
-            (files_short kept (root x) within);
+        inside = files.0;
+        short = reply_short c x _ holds.sound (omega arith) (omega arith) (omega arith) files.1;
       }
 
   pub all_good : (mode : Mode) (sent : List ℕ) (messages : List (List ℕ)) (xs : List Asked)
-      → All (λ x. IsRootWithin (count_of c.links) (root x)) xs
-      → All (IsAllowed c.limits) messages → AllZip (IsAsked c) messages xs
-      → AllZip (IsGood c) xs (carried_from mode (reach_of c.links) sent (map root xs))
+      → All (λ x. IsRootWithin (count_of c.links) (root x)) xs → All (IsAllowed c.limits) messages
+      → AllZip (IsAsked c) messages xs → AllZip (IsGood c) xs (carried_from mode (reach_of c.links) sent (map root xs))
   all_good mode sent [] [] within allowed asked = tt
   all_good mode sent (m ∷ ms) (x ∷ xs) within allowed asked = (
     good_one m x (λ g. repeats mode (root x) g || not (is_member ◌==◌ sent g))
@@ -80,9 +74,8 @@ module _ (c : Compilation) (holds : HoldsReplies c) where
   )
   all_good mode sent ms xs within allowed asked = absurd asked
 
-  pub replyable : (messages : List (List ℕ)) (xs : List rust.Asked) (ys : List (Vec ℕ Global))
-      (services : List ℕ) (mode : Mode)
-      → All (IsAllowed c.limits) messages → AllZip (IsAsked c) messages (map asked_of xs)
+  pub replyable : (messages : List (List ℕ)) (xs : List rust.Asked) (ys : List (Vec ℕ Global)) (services : List ℕ)
+      (mode : Mode) → All (IsAllowed c.limits) messages → AllZip (IsAsked c) messages (map asked_of xs)
       → All (λ a. IsRootWithin (count_of c.links) (root (asked_of a))) xs
       → map files_of ys ≡ carried mode (reach_of c.links) (map root (map asked_of xs)) → AreServicesFor c xs services
       → AreReplyable c services xs ys
@@ -98,8 +91,7 @@ module _ (c : Compilation) (holds : HoldsReplies c) where
 
 -- the messages of a body are allowed
 pub allowed_of : (c : Compilation) (body : List ℕ) (messages : List (List ℕ)) (status : ℕ)
-    → ReadsBody c.limits body messages status
-    → All (IsAllowed c.limits) messages
+    → ReadsBody c.limits body messages status → All (IsAllowed c.limits) messages
 allowed_of c body messages status reads = elim (cases_lt (limit_of c.limits limit.BodyBytes) (length body)) [
   | inl over ↦ rw (reads.over over).0 (λ k d below. absurd (omega arith))
   | inr within ↦ (reads.within within).1.allowed

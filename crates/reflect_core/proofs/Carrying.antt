@@ -26,8 +26,7 @@ module _ (f : ℕ → List ℕ) where
 
 -- what a reply carries is reached by its root
 pub carried_inside : (p : ℕ → Bool) (reach : ℕ → List ℕ) (r a : ℕ) → Contains (reach r) r
-    → Contains (filter p (root_first reach (Some r))) a
-    → Contains (reach r) a
+    → Contains (filter p (root_first reach (Some r))) a → Contains (reach r) a
 carried_inside p reach r a own w = of (kept_to p (root_first reach (Some r)) a w).0 where
   of : Contains (r ∷ filter (λ g. not (eqb g r)) (reach r)) a → Contains (reach r) a
   of (zero, below, is) = rw (← is) own

@@ -1,9 +1,9 @@
 -- What a message names is no longer than the message.
-use Rattle.std.proofs.Common.{◌≡◌, ℕ, ◌≤◌, List, [], ◌∷◌, length, ap, arith, length-append, refl}
+use Rattle.std.proofs.Common.{◌≡◌, ℕ, ◌≤◌, List, [], ◌∷◌, length, ap, arith, length-append}
 use Rattle.std.specs.Prelude.{Option, Some, flat_map}
 use Rattle.std.proofs.lemmas.Grind.{common_steps}
 use Rattle.std.specs.List.{cons_option, filter_map}
-use Rattle.wire_format.specs.Reading.{Value, number, bytes, Spelled, Body, varint_body, delimited, body_text, text_of, entry_of}
+use Rattle.wire_format.specs.Reading.{Value, number, bytes, Spelled, Body, varint_body, delimited, body_text, text_of, entry_of, entry_by}
 use Rattle.reflect_requests.specs.Request.{Ask, file_by_name, file_by_symbol, file_by_extension, extension_numbers, list_services, nothing, last_of, host_of, member_of, ReadsRequest}
 
 abbrev pub value_len : ℕ × Value → ℕ
@@ -17,13 +17,13 @@ module _ {A : Type 0} (size : A → ℕ) (f : ℕ × Value → Option A) (most :
       → size (last_of x (filter_map f (e ∷ es))) ≤ most
   last_step e x es short here rest = grind (arith, common_steps)
 
-  last_go : (s : Spelled) (es : List (ℕ × Value)) (x : A) → size x ≤ most → length (body_text s.body) ≤ most
+  last_go : (n : ℕ) (b : Body) (es : List (ℕ × Value)) (x : A) → size x ≤ most → length (body_text b) ≤ most
       → ((y : A) → size y ≤ most → size (last_of y (filter_map f es)) ≤ most)
-      → (b : Body) → s.body ≡ b → size (last_of x (filter_map f (cons_option (entry_of s) es))) ≤ most
-  last_go s es x here long rest (varint_body text value) is = rw is (last_step _ x es (omega arith) here rest)
-  last_go s es x here long rest (delimited count contents) is =
-      rw is (last_step _ x es (omega (arith, rw is at long, length-append count contents)) here rest)
-  last_go s es x here long rest b is = rw is (rest x here)
+      → size (last_of x (filter_map f (cons_option (entry_by n b) es))) ≤ most
+  last_go n (varint_body text value) es x here long rest = last_step _ x es (omega arith) here rest
+  last_go n (delimited count contents) es x here long rest =
+      last_step _ x es (omega (arith, length-append count contents)) here rest
+  last_go n b es x here long rest = rest x here
 
   pub last_within : (row : List Spelled) (x : A) → size x ≤ most → length (flat_map text_of row) ≤ most
       → size (last_of x (filter_map f (filter_map entry_of row))) ≤ most
@@ -31,7 +31,7 @@ module _ {A : Type 0} (size : A → ℕ) (f : ℕ × Value → Option A) (most :
   last_within (s ∷ row) x here long =
       let split = length-append (text_of s) (flat_map text_of row) in
       let own = length-append s.tag (body_text s.body) in
-      last_go s _ x here (omega arith) (λ y h. last_within row y h (omega arith)) s.body refl
+      last_go s.number s.body _ x here (omega arith) (λ y h. last_within row y h (omega arith))
 
 abbrev pub ask_size : Ask → ℕ
 ask_size (file_by_name text) = length text

@@ -28,10 +28,8 @@ replies_more c (suc k) (x ∷ xs) (y ∷ ys) a f below short =
 replies_more c k xs ys a f below short = absurd (omega arith)
 
 pub frames_more : (c : Compilation) (k : ℕ) (xs : List rust.Asked) (ys : List (Vec ℕ Global)) (a : rust.Asked)
-    (files out new : List ℕ) (f : Vec ℕ Global)
-    → k < length xs → k < length ys
-    → files ≡ files_of (get_or ys k f) → out ≡ flat_map (frame 0) (prefix c k xs ys)
-    → new ≡ out ++ frame 0 (reply c (asked_of (get_or xs k a)) files)
+    (files out new : List ℕ) (f : Vec ℕ Global) → k < length xs → k < length ys → files ≡ files_of (get_or ys k f)
+    → out ≡ flat_map (frame 0) (prefix c k xs ys) → new ≡ out ++ frame 0 (reply c (asked_of (get_or xs k a)) files)
     → new ≡ flat_map (frame 0) (prefix c (k + 1) xs ys)
 frames_more c k xs ys a files out new f below short same before is =
     let r = reply c (asked_of (get_or xs k a)) (files_of (get_or ys k f)) in

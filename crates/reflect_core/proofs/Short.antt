@@ -22,13 +22,8 @@ services_short c sound =
     let service : List ℕ → List ℕ = λ name. bytes_field 1 (bytes_field 1 name) in
     let list = sum_by-le (λ name. length (service name)) 1063 c.index.services (λ k d h.
     let name = get_or c.index.services k d in
-    omega (
-      arith,
-      sound.short_services name (Contains-get_or c.index.services k d h),
-      field_short 1 name,
-      field_short 1 (bytes_field 1 name),
-      c.limits.full_name_bytes_bound,
-    )) in
+    let own = sound.short_services name (Contains-get_or c.index.services k d h) in
+    omega (arith, own, field_short 1 name, field_short 1 (bytes_field 1 name), c.limits.full_name_bytes_bound)) in
     omega (arith, list, length-flat_map service c.index.services, sound.few_services, c.limits.names_bound)
 
 -- how long the name is that an answer holds
@@ -57,16 +52,9 @@ host_short [] = omega arith
 host_short (x ∷ xs) = field_short 1 (x ∷ xs)
 
 pub reply_short : (c : Compilation) (asked : Asked) (files : List ℕ) → IsSound c → length asked.message ≤ 65536
-    → length asked.host ≤ length asked.message
-    → answer_size asked.answer ≤ length asked.message
+    → length asked.host ≤ length asked.message → answer_size asked.answer ≤ length asked.message
     → length (files_bytes c files) ≤ 1073741824 → length (reply c asked files) < 4294967296
 reply_short c asked files sound small host size short =
     let contents = contents_short c files asked.answer sound short (omega arith) in
-    omega (
-      arith,
-      reply_length c asked files,
-      host_short asked.host,
-      field_short 2 asked.message,
-      contents,
-      varint_short,
-    )
+    let parts = reply_length c asked files in let front = host_short asked.host in
+    omega (arith, parts, front, field_short 2 asked.message, contents, varint_short)

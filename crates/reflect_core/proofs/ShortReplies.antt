@@ -45,8 +45,7 @@ roots_inside c one count (m ∷ ms) (x ∷ xs) asked = All-cons (λ x. IsRootWit
 roots_inside c one count messages xs asked = absurd asked
 
 pub replies_short : (limits : Limits) (sources : List Source) (c : Compilation) (mode : Mode) (body bytes : List ℕ)
-    → IsCompiled limits sources c
-    → (response : IsResponse mode c body bytes)
+    → IsCompiled limits sources c → (response : IsResponse mode c body bytes)
     → All (λ reply. length reply < 4294967296) (replies mode c response.asked)
 replies_short limits sources c mode body bytes of response =
     let holds = holds_of limits sources c of in

@@ -2,13 +2,10 @@ use Rattle.reflect_core.specs.Answer.{no_extension, listed, nothing_asked}
 use Rattle.reflect_core.proofs.answer.answer_to.Goals as goal
 
 pub returns-in-FileByExtension-clause-answer : goal.returns-in-FileByExtension-clause-answer
-returns-in-FileByExtension-clause-answer c =
-    rw c.in-FileByExtension.is no_extension
+returns-in-FileByExtension-clause-answer c = rw c.in-FileByExtension.is no_extension
 
 pub returns-in-ListServices-clause-answer : goal.returns-in-ListServices-clause-answer
-returns-in-ListServices-clause-answer c =
-    rw c.in-ListServices.is listed
+returns-in-ListServices-clause-answer c = rw c.in-ListServices.is listed
 
 pub returns-in-Nothing-clause-answer : goal.returns-in-Nothing-clause-answer
-returns-in-Nothing-clause-answer c =
-    rw c.in-Nothing.is nothing_asked
+returns-in-Nothing-clause-answer c = rw c.in-Nothing.is nothing_asked

@@ -2,7 +2,6 @@ use Rattle.std.proofs.Common.{◌≡◌, Some, sym, ap, ◌∙◌}
 use Rattle.std.proofs.lemmas.Bool.{false≢true}
 use Rattle.std.proofs.lemmas.Option.{same_Some}
 use Rattle.proto_desc.specs.declared.name_kind.NameKind.TheVariants.{Message}
-use Rattle.proto_names.specs.Occurrences.{Occurrence}
 use Rattle.reflect_core.specs.Answer.{message, no_message}
 use Rattle.reflect_core.proofs.Declaring.{declares_of}
 use Rattle.reflect_core.proofs.answer.extensions_of.Goals as goal
@@ -21,8 +20,7 @@ returns-in_default-clause-answer c = elim c.in_default.branch [
       let found = declares_of c.args.compiled.now _ c.args.name.now f.0 _ c.names-2.ensures f.1 f.2 f.3 in
       let same = c.names_are_declared_once.ensures.one o f.0 (rw c.names.ensures d.declared)
       (rw c.names.ensures found.declared) (d.named ∙ sym f.2) d.element in
-      let kind : Some w.in-Some.defined.kind ≡ Some Message =
-      sym f.3 ∙ ap (λ (x : Occurrence). x.kind) (sym same) ∙ k in
+      let kind : Some w.in-Some.defined.kind ≡ Some Message = cc (f.3, same, k) in
       false≢true (sym w.if-is_message.false ∙ w.is_message.ensures.1 (same_Some _ _ kind)))
   | in_default-via-in_default w ↦ no_message _
       (λ o d k. d.element (c.find.ensures.none w.in_default.is o (rw c.names-2.ensures d.declared) d.named))

@@ -10,9 +10,8 @@ use Rattle.reflect_requests.specs.ProgramFrames.{Reads, bytes_of}
 use Rattle.reflect_core.proofs.asked.asked_in.Goals as goal
 
 -- lists of two kinds, related item by item, one item longer
-zip_more : {A B X Y : Type 0} (R : X → Y → Type 0) (f : A → X) (g : B → Y) (xs : List A) (bs : List B) (k : ℕ)
-    (d : A) (b : B) → k < length xs
-    → AllZip R (map f (take k xs)) (map g bs) → R (f (get_or xs k d)) (g b)
+zip_more : {A B X Y : Type 0} (R : X → Y → Type 0) (f : A → X) (g : B → Y) (xs : List A) (bs : List B) (k : ℕ) (d : A)
+    (b : B) → k < length xs → AllZip R (map f (take k xs)) (map g bs) → R (f (get_or xs k d)) (g b)
     → AllZip R (map f (take (k + 1) xs)) (map g (bs ++ b ∷ []))
 zip_more R f g xs bs k d b below before here =
     rw (map_more f xs k d below, map-append g bs (b ∷ [])) (all_zipped_more R _ _ _ _ before here)

@@ -7,10 +7,9 @@ use Rattle.reflect_core.proofs.response.put_trailer.Goals as goal
 
 pub overflow_cast-len : goal.overflow_cast-len
 overflow_cast-len c =
-    let whole = ap length c.in_ok-text.ensures.ok in
     let digits = length-decimal-le 3 c.args.status (omega arith) (omega arith) (omega arith) in
     let sum = length-append (decimal c.args.status) (13 ∷ 10 ∷ []) in
-    omega (arith, whole, digits, sum, c.len.ensures)
+    omega (arith, ap length c.in_ok-text.ensures.ok, digits, sum, c.len.ensures)
 
 pub returns : goal.returns
 returns c =

@@ -1,4 +1,4 @@
-use Rattle.std.proofs.Common.{◌≡◌, ◌∙◌, ap, arith, length, get_or, ℕ, List}
+use Rattle.std.proofs.Common.{arith, ℕ}
 use Rattle.std.proofs.lemmas.List.Elements.{Contains-get_or}
 use Rattle.std.proofs.lemmas.List.Folds.{length-flat_map-take}
 use Rattle.wire_format.specs.Field.{bytes_field}
@@ -12,7 +12,4 @@ pub overflow_add-len : goal.overflow_add-len
 overflow_add-len c =
     let field = λ (a : ℕ). bytes_field 1 (bytes_at c.args.self.now.compiled.now.files a) in
     let part = length-flat_map-take field c.args.files.now c.loop-file.file-index 0 (omega arith) in
-    let here : c.field_len-len.result ≡ length (field (get_or c.args.files.now c.loop-file.file-index 0)) =
-    c.field_len-len.ensures.len ∙ ap (λ (b : List ℕ). length (bytes_field 1 b)) c.bytes_at.ensures in
-    let inv = c.loop-file.invariant in let short = c.requires.short in
-    omega (arith, part, here, inv, short)
+    grind (arith, part)
