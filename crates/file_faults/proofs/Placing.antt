@@ -1,5 +1,5 @@
 -- Where the faults of sources by themselves stand.
-use Rattle.std.proofs.Common.{◌≡◌, ◌∙◌, sym, ap, subst, ℕ, ◌≤◌, inl, inr, List, length, get_or}
+use Rattle.std.proofs.Common.{◌≡◌, ◌∙◌, sym, ap, ◌≤◌, inl, inr, List, length}
 use Rattle.std.specs.Prelude.{Contains}
 use Rattle.std.proofs.lemmas.Bool.{cases_order}
 use Rattle.proto_base.specs.Limits.{limit_of}
@@ -21,22 +21,16 @@ one_of_name files s t differ (i, first, is) (j, second, also) same =
     let left = name_of_item files i s first (sym is) in
     let right = name_of_item files j t second (sym also) in
     elim (cases_order i j) [
-      | inl here ↦ standing_one files i s t first is (subst (λ (k : ℕ). get_or files k t ≡ t) (sym here) also)
-      | inr (inl less) ↦ absurd (differ i j less second (left ∙ same ∙ sym right))
-      | inr (inr over) ↦ absurd (differ j i over first (right ∙ sym same ∙ sym left))
+      | inl here ↦ standing_one files i s t first is (rw here also)
+      | inr (inl less) ↦ absurd (differ i j less second (cc))
+      | inr (inr over) ↦ absurd (differ j i over first (cc))
     ]
 
 pub placed : (limits : Limits) (files : List Source) (xs : List SourceFault) (x : SourceFault) (s : Source)
-    → NamesDiffer files
-    → AreFileFaults limits files xs → Contains xs x → Contains files s → name_of s ≡ x.file
+    → NamesDiffer files → AreFileFaults limits files xs → Contains xs x → Contains files s → name_of s ≡ x.file
     → (x.place.offset ≤ length (text_of s)) × (x.place.offset ≤ limit_of limits limit.FileBytes)
 placed limits files xs x s differ all told inside name =
-    let (t, there, own) = no_other limits files xs x all told in
-    let (f, found, is) = own in
-    let one : s ≡ t = one_of_name files s t differ inside there (name ∙ ap (λ (y : SourceFault). y.file) is) in
-    let at : f.spot.place.offset ≡ x.place.offset = sym (ap (λ (y : SourceFault). y.place.offset) is) in
-    let P : ℕ → Type 0 = λ n. n ≤ length (text_of s) in
-    let Q : Source → Type 0 = λ r. f.spot.place.offset ≤ length (text_of r) in
-    let R : ℕ → Type 0 = λ n. n ≤ limit_of limits limit.FileBytes in
+    let (t, there, (f, found, is)) = no_other limits files xs x all told in
+    let one = one_of_name files s t differ inside there (name ∙ ap (λ (y : SourceFault). y.file) is) in
     let stands = fault_inside limits (name_of t) (text_of t) f found in
-    (subst P at (subst Q (sym one) stands.within), subst R at stands.short)
+    rw (is, one) (stands.within, stands.short)
