@@ -7,33 +7,23 @@ use Rattle.proto_compile.specs.Compilation.{Compilation, IsCompiled}
 use Rattle.proto_compile.specs.declared.source.Source.{Source}
 use Rattle.reflect_core.proofs.OneResponse.{one_response}
 
-pub one_answer : (limits : Limits) (sources : List Source) (c d : Compilation) (mode : Mode) (request : Request)
-    (a b : Answer) → IsCompiled limits sources c
-    → IsCompiled limits sources d → IsAnswer mode c request a → IsAnswer mode d request b → a ≡ b
-one_answer limits sources c d mode request a b of too (elsewhere out) (elsewhere out') = refl
-one_answer limits sources c d mode request a b of too (elsewhere out) (no_post here method) = absurd (out here)
-one_answer limits sources c d mode request a b of too (elsewhere out) (no_grpc_web here method type) = absurd (out here)
-one_answer limits sources c d mode request a b of too (elsewhere out) (answered response here method type is) =
-    absurd (out here)
-one_answer limits sources c d mode request a b of too (no_post here method) (elsewhere out) = absurd (out here)
-one_answer limits sources c d mode request a b of too (no_post here method) (no_post here' method') = refl
-one_answer limits sources c d mode request a b of too (no_post here method) (no_grpc_web here' post type) =
-    absurd (method post)
-one_answer limits sources c d mode request a b of too (no_post here method) (answered response here' post type is) =
-    absurd (method post)
-one_answer limits sources c d mode request a b of too (no_grpc_web here post type) (elsewhere out) = absurd (out here)
-one_answer limits sources c d mode request a b of too (no_grpc_web here post type) (no_post here' method) =
-    absurd (method post)
-one_answer limits sources c d mode request a b of too (no_grpc_web here post type) (no_grpc_web here' post' type') =
-    refl
-one_answer limits sources c d mode request a b of too (no_grpc_web here post type)
-    (answered response here' post' type' is) = absurd (type type')
-one_answer limits sources c d mode request a b of too (answered response here post type is) (elsewhere out) =
-    absurd (out here)
-one_answer limits sources c d mode request a b of too (answered response here post type is) (no_post here' method) =
-    absurd (method post)
-one_answer limits sources c d mode request a b of too (answered response here post type is)
-    (no_grpc_web here' post' type') = absurd (type' type)
-one_answer limits sources c d mode request a b of too (answered response here post type is)
-    (answered response' here' post' type' is') =
-    ap framed (one_response limits sources c d mode request.body response response' of too is is')
+module _ (limits : Limits) (sources : List Source) (c d : Compilation) (mode : Mode) (request : Request) where
+  pub one_answer : (a b : Answer) → IsCompiled limits sources c → IsCompiled limits sources d
+      → IsAnswer mode c request a → IsAnswer mode d request b → a ≡ b
+  one_answer _ _ of too (elsewhere out) (elsewhere _) = refl
+  one_answer _ _ of too (elsewhere out) (no_post here _) = absurd (out here)
+  one_answer _ _ of too (elsewhere out) (no_grpc_web here _ _) = absurd (out here)
+  one_answer _ _ of too (elsewhere out) (answered _ here _ _ _) = absurd (out here)
+  one_answer _ _ of too (no_post here _) (elsewhere out) = absurd (out here)
+  one_answer _ _ of too (no_post _ _) (no_post _ _) = refl
+  one_answer _ _ of too (no_post _ method) (no_grpc_web _ post _) = absurd (method post)
+  one_answer _ _ of too (no_post _ method) (answered _ _ post _ _) = absurd (method post)
+  one_answer _ _ of too (no_grpc_web here _ _) (elsewhere out) = absurd (out here)
+  one_answer _ _ of too (no_grpc_web _ post _) (no_post _ method) = absurd (method post)
+  one_answer _ _ of too (no_grpc_web _ _ _) (no_grpc_web _ _ _) = refl
+  one_answer _ _ of too (no_grpc_web _ _ other) (answered _ _ _ type _) = absurd (other type)
+  one_answer _ _ of too (answered _ here _ _ _) (elsewhere out) = absurd (out here)
+  one_answer _ _ of too (answered _ _ post _ _) (no_post _ method) = absurd (method post)
+  one_answer _ _ of too (answered _ _ _ type _) (no_grpc_web _ _ other) = absurd (other type)
+  one_answer _ _ of too (answered r _ _ _ is) (answered s _ _ _ also) =
+      ap framed (one_response limits sources c d mode request.body r s of too is also)
