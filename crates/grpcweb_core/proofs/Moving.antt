@@ -23,16 +23,11 @@ pub record IsReading (old now : Reads) (room : List ℕ) (filled : ℕ) : Type 0
   pub failures : now.failures ≡ old.failures
   pub left : Consumes old.left now.left (take filled room)
 
-prefix_of : (room sub : List ℕ) (filled n : ℕ) → filled ≤ length room
-    → take (filled + n) (take filled room ++ sub) ≡ take filled room ++ take n sub
-prefix_of room sub filled n within =
-    rw (length-take-le filled room within) at (take-append-add (take filled room) sub n)
-
 pub read_more : (old now new : Reads) (room sub : List ℕ) (filled n : ℕ) → IsReading old now room filled
     → n ≤ length sub → 0 < n → IsGiven now new sub n → IsReading old new (take filled room ++ sub) (filled + n)
 read_more old now new room sub filled n so short some once =
     let call : Call = record { room = length sub; given = Some n } in
-    let prefix = prefix_of room sub filled n so.within in
+    let prefix = rw (length-take-le filled room so.within) at (take-append-add (take filled room) sub n) in
     record {
       own = so.own ++ call ∷ [];
       made = cc (append_assoc old.calls so.own (call ∷ []));
@@ -48,9 +43,7 @@ pub read_none : (old now new : Reads) (room sub : List ℕ) (filled : ℕ) → I
     → IsRead (length (take filled room ++ sub)) old new (take filled (take filled room ++ sub))
 read_none old now new room sub filled so some once =
     let call : Call = record { room = length sub; given = Some 0 } in
-    let long = length-take-le filled room so.within in
-    let prefix : take filled (take filled room ++ sub) ≡ take filled room =
-    rw long at (take-append_seam (take filled room) sub) in
+    let prefix = rw (length-take-le filled room so.within) at (take-append_seam (take filled room) sub) in
     record {
       own = so.own ++ call ∷ [];
       calls = cc (append_assoc old.calls so.own (call ∷ []));

@@ -1,5 +1,4 @@
-use Rattle.grpcweb_core.proofs.Judging.{is_target}
-use Rattle.grpcweb_core.proofs.Judging.{not_of_path}
+use Rattle.grpcweb_core.proofs.Judging.{is_target, not_of_path}
 use Rattle.grpcweb_core.proofs.target.is_target_of.Goals as goal
 
 pub returns-in-Some : goal.returns-in-Some
