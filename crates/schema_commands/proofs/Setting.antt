@@ -1,127 +1,91 @@
 -- From the writing of each file to that of a set.
-use Rattle.std.proofs.Common.{◌≡◌, ◌∙◌, ℕ, suc, ◌+◌, ◌≤◌, List, [], ◌∷◌, ◌++◌, ◌<◌, length, get_or, sym, ap, subst, arith, refl}
-use Rattle.std.specs.Prelude.{take, drop, flat_map, Result, Ok, Err, OnOk, OnErr, IsErrAnd}
+use Rattle.std.proofs.Common.{◌≡◌, ℕ, ◌+◌, ◌≤◌, List, [], ◌∷◌, ◌++◌, ◌<◌, length, get_or, arith, refl}
+use Rattle.std.specs.Prelude.{take, drop, flat_map, Result, Ok, Err, OnOk, OnErr, Contains}
 use Rattle.std.proofs.lemmas.Grind.{flat_map-append}
-use Rattle.std.specs.Io.KnownBytes.{Appends}
-use Rattle.std.proofs.KnownBytes.{Appends-nil, Appends-trans}
+use Rattle.std.proofs.KnownBytes.{Appends-trans}
 use Rattle.std.proofs.lemmas.List.{append_assoc, append-nil, length-append, take-append-drop, take-append-le, take_more}
+use Rattle.std.proofs.lemmas.List.Elements.{Contains-get_or}
 use Rattle.std.proofs.Math.Seq.{take-append-add}
-use Rattle.grpcweb_core.specs.Exchange.{IsWritten}
 use Rattle.grpcweb_core.specs.Streams.{Writes}
 use Rattle.schema_commands.specs.Gathered.{IsGathered, IsTaken}
 use Rattle.schema_commands.specs.Runs.{IsOutput}
 use Rattle.schema_failure.specs.declared.failure.Failure.{Failure}
 use Rattle.wire_format.specs.Varint.{groups, varint_bytes}
 
-pub of_written : (old now : Writes) (bytes : List ℕ) → IsWritten old now bytes → IsTaken old now bytes
-of_written old now bytes w = record { taken = w.taken; failures = w.failures; contents = w.contents }
-
-both_taken : (old now new : Writes) (xs ys : List ℕ) → now.bytes ≡ old.bytes ++ xs → new.bytes ≡ now.bytes ++ ys
-    → new.bytes ≡ old.bytes ++ (xs ++ ys)
-both_taken old now new xs ys first more = more ∙ ap (λ l. l ++ ys) first ∙ append_assoc old.bytes xs ys
-
 -- what is written after all of these bytes
 pub output_after : {B : Type 0} (old now new : Writes) (xs ys : List ℕ) (done : Result B Failure) → IsTaken old now xs
     → IsOutput now new ys done → IsOutput old new (xs ++ ys) done
 output_after old now new xs ys (Ok b) first w = record {
-  taken = both_taken old now new xs ys first.taken w.taken;
+  taken = cc (append_assoc old.bytes xs ys);
   flushed = w.flushed;
-  failures = w.failures ∙ first.failures;
+  failures = (cc);
   contents = Appends-trans old.contents now.contents new.contents xs ys first.contents w.contents;
 }
-output_after old now new xs ys (Err f) first (e, n, p) =
-    let cut = take-append-add xs ys n in (
-      e,
-      length xs + n,
-      record {
-        within = (let all = length-append xs ys in let few = p.within in omega (arith, all, few));
-        taken =
-            subst (λ l. new.bytes ≡ old.bytes ++ l) (sym cut)
-            (both_taken old now new xs (take n ys) first.taken p.taken);
-        failures = p.failures ∙ ap (λ k. suc k) first.failures;
-        contents = subst (λ l. Appends old.contents new.contents l) (sym cut)
-            (Appends-trans old.contents now.contents new.contents xs (take n ys) first.contents p.contents);
-      },
-    )
+output_after old now new xs ys (Err f) first (e, n, p) = (
+  e,
+  length xs + n,
+  record {
+    within = omega (arith, length-append xs ys, p.within);
+    taken = cc (take-append-add xs ys n, append_assoc old.bytes xs (take n ys));
+    failures = (cc);
+    contents = rw (take-append-add xs ys n)
+        (Appends-trans old.contents now.contents new.contents xs (take n ys) first.contents p.contents);
+  },
+)
 
 -- where a call fails, more that was to follow changes nothing
-pub output_cut : {B : Type 0} (old new : Writes) (xs ys : List ℕ) (f : Failure) (done : Result B Failure)
-    → IsErrAnd done (λ e. e ≡ f) → IsOutput {B = Unit {0}} old new xs (Err f) → IsOutput old new (xs ++ ys) done
-output_cut old new xs ys f (Ok b) handed out = absurd handed
-output_cut old new xs ys f (Err d) handed (e, n, p) =
-    let same : take n (xs ++ ys) ≡ take n xs = take-append-le n xs ys p.within in (
-      handed ∙ e,
-      n,
-      record {
-        within = (let all = length-append xs ys in let few = p.within in omega (arith, all, few));
-        taken = subst (λ l. new.bytes ≡ old.bytes ++ l) (sym same) p.taken;
-        failures = p.failures;
-        contents = subst (λ l. Appends old.contents new.contents l) (sym same) p.contents;
-      },
-    )
+pub output_cut : (old new : Writes) (xs ys : List ℕ) (f : Failure) → IsOutput {B = Unit {0}} old new xs (Err f)
+    → IsOutput {B = Unit {0}} old new (xs ++ ys) (Err f)
+output_cut old new xs ys f (e, n, p) = (
+  e,
+  n,
+  record {
+    within = omega (arith, length-append xs ys, p.within);
+    taken = rw (take-append-le n xs ys p.within) p.taken;
+    failures = p.failures;
+    contents = rw (take-append-le n xs ys p.within) p.contents;
+  },
+)
 
 -- ---- bytes that wait
 
-none_taken : (w : Writes) → IsTaken w w []
-none_taken w = record { taken = sym (append-nil w.bytes); failures = refl; contents = Appends-nil w.contents }
-
--- bytes that are only put behind those that wait
-pub only_put : {B : Type 0} (w : Writes) (waiting waiting' bytes : List ℕ) (b : B) → waiting' ≡ waiting ++ bytes
-    → IsGathered w w waiting waiting' bytes (Ok b)
-only_put w waiting waiting' bytes b put = ([], none_taken w, put)
-
 -- all that waits is written
-pub all_out : {B : Type 0} (old new : Writes) (waiting waiting' : List ℕ) (done : Result B Failure)
-    → IsOutput old new waiting done
-    → OnOk done (waiting' ≡ []) → IsGathered old new waiting waiting' [] done
-all_out old new waiting waiting' (Ok b) w none =
-    (waiting, of_written old new waiting w, ap (λ (l : List ℕ). waiting ++ l) none)
-all_out old new waiting waiting' (Err f) out none =
-    subst (λ (l : List ℕ). IsOutput {B = Unit {0}} old new l (Err f)) (sym (append-nil waiting)) out
+pub all_out : {B : Type 0} (old new : Writes) (waiting waiting' bytes all : List ℕ) (done : Result B Failure)
+    → all ≡ waiting ++ bytes → IsOutput old new all done → OnOk done (waiting' ≡ [])
+    → IsGathered old new waiting waiting' bytes done
+all_out old new waiting waiting' bytes all (Ok b) put w none =
+    (all, record { taken = w.taken; failures = w.failures; contents = w.contents }, cc (append-nil all))
+all_out old new waiting waiting' bytes all (Err f) put out none = rw (← put) out
 
 -- bytes that are written where none wait
 pub straight_out : {B : Type 0} (old new : Writes) (waiting bytes : List ℕ) (done : Result B Failure) → waiting ≡ []
-    → IsOutput old new bytes done
-    → IsGathered old new waiting waiting bytes done
-straight_out old new waiting bytes (Ok b) none w = (
-  bytes,
-  of_written old new bytes w,
-  ap (λ (l : List ℕ). bytes ++ l) none ∙ append-nil bytes
-      ∙ ap (λ (l : List ℕ). l ++ bytes) (sym none),
-)
-straight_out old new waiting bytes (Err f) none out =
-    subst (λ (l : List ℕ). IsOutput {B = Unit {0}} old new (l ++ bytes) (Err f)) (sym none) out
+    → IsOutput old new bytes done → IsGathered old new waiting waiting bytes done
+straight_out old new waiting bytes (Ok b) none out = all_out old new waiting waiting bytes bytes (Ok b) (cc) out none
+straight_out old new waiting bytes (Err f) none out = rw none out
 
 -- one after the other
 pub gathered_after : {A B : Type 0} (old now new : Writes) (first second third xs ys : List ℕ) (a : A)
-    (done : Result B Failure)
-    → IsGathered old now first second xs (Ok a) → IsGathered now new second third ys done
+    (done : Result B Failure) → IsGathered old now first second xs (Ok a) → IsGathered now new second third ys done
     → IsGathered old new first third (xs ++ ys) done
 gathered_after old now new first second third xs ys a (Ok b) (t, before, is) (u, after, next) = (
   t ++ u,
   record {
-    taken = both_taken old now new t u before.taken after.taken;
-    failures = after.failures ∙ before.failures;
+    taken = cc (append_assoc old.bytes t u);
+    failures = (cc);
     contents = Appends-trans old.contents now.contents new.contents t u before.contents after.contents;
   },
-  append_assoc t u third ∙ ap (λ (l : List ℕ). t ++ l) next ∙ sym (append_assoc t second ys)
-      ∙ ap (λ (l : List ℕ). l ++ ys) is
-      ∙ append_assoc first xs ys,
+  cc (append_assoc t u third, append_assoc t second ys, append_assoc first xs ys),
 )
 gathered_after old now new first second third xs ys a (Err f) (t, before, is) out =
-    subst (λ (l : List ℕ). IsOutput {B = Unit {0}} old new l (Err f))
-    (sym (append_assoc t second ys) ∙ ap (λ (l : List ℕ). l ++ ys) is ∙ append_assoc first xs ys)
-    (output_after {B = Unit {0}} old now new t (second ++ ys) (Err f) before out)
+    let whole : t ++ (second ++ ys) ≡ first ++ (xs ++ ys) = cc (append_assoc t second ys, append_assoc first xs ys) in
+    rw (← whole) (output_after {B = Unit {0}} old now new t (second ++ ys) (Err f) before out)
 
 -- where a call fails, more that was to follow changes nothing
-pub gathered_cut : {B : Type 0} (old new : Writes) (first second third xs ys : List ℕ) (f : Failure)
-    (done : Result B Failure)
-    → IsErrAnd done (λ e. e ≡ f) → IsGathered {B = Unit {0}} old new first second xs (Err f)
-    → IsGathered old new first third (xs ++ ys) done
-gathered_cut old new first second third xs ys f (Ok b) handed out = absurd handed
-gathered_cut old new first second third xs ys f (Err d) handed out =
-    subst (λ (l : List ℕ). IsOutput {B = Unit {0}} old new l (Err d)) (append_assoc first xs ys)
-    (output_cut {B = Unit {0}} old new (first ++ xs) ys f (Err d) handed out)
+pub gathered_cut : (old new : Writes) (first second third xs ys : List ℕ) (f : Failure)
+    → IsGathered {B = Unit {0}} old new first second xs (Err f)
+    → IsGathered {B = Unit {0}} old new first third (xs ++ ys) (Err f)
+gathered_cut old new first second third xs ys f out =
+    rw (← append_assoc first xs ys) (output_cut old new (first ++ xs) ys f out)
 
 -- ---- the files of a set
 
@@ -129,16 +93,18 @@ gathered_cut old new first second third xs ys f (Err d) handed out =
 pub set_more : (f : ℕ → List ℕ) (xs : List ℕ) (k : ℕ) → k < length xs
     → flat_map f (take (k + 1) xs) ≡ flat_map f (take k xs) ++ f (get_or xs k 0)
 set_more f xs k h =
-    let last = append-nil (f (get_or xs k 0)) in
-    ap (flat_map f) (take_more xs k 0 h) ∙ flat_map-append f (take k xs) (get_or xs k 0 ∷ [])
-    ∙ ap (λ (t : List ℕ). flat_map f (take k xs) ++ t) last
+    rw (take_more xs k 0 h, flat_map-append f (take k xs) (get_or xs k 0 ∷ []), append-nil (f (get_or xs k 0)))
 
 -- and those after it
 pub set_split : (f : ℕ → List ℕ) (xs : List ℕ) (k : ℕ) → k < length xs
     → flat_map f xs ≡ (flat_map f (take k xs) ++ f (get_or xs k 0)) ++ flat_map f (drop (k + 1) xs)
 set_split f xs k h =
-    ap (flat_map f) (sym (take-append-drop (k + 1) xs)) ∙ flat_map-append f (take (k + 1) xs) (drop (k + 1) xs)
-    ∙ ap (λ (l : List ℕ). l ++ flat_map f (drop (k + 1) xs)) (set_more f xs k h)
+    cc (set_more f xs k h, flat_map-append f (take (k + 1) xs) (drop (k + 1) xs), take-append-drop (k + 1) xs)
+
+-- each is one of the files
+pub file_below : (order all : List ℕ) (k n : ℕ) → order ≡ all → ((a : ℕ) → Contains all a → a < n) → k < length order
+    → get_or order k 0 < n
+file_below order all k n same below h = rw same (below _ (Contains-get_or all k 0 (rw same at h)))
 
 -- ---- room
 

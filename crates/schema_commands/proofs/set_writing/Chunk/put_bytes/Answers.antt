@@ -3,7 +3,5 @@ use Rattle.schema_commands.proofs.set_writing.Chunk.put_bytes.Goals as goal
 
 pub returns : goal.returns
 returns c =
-    let ok =
-    c.extend_from_slice.ensures.succeeds
-    (omega (arith, c.args.self.now.room, c.requires, c.args.self.now.bytes.ok.0)) in
-    rw ok at c.extend_from_slice.ensures.items
+    rw (c.extend_from_slice.ensures.succeeds
+    (omega (arith, c.args.self.now.room, c.requires, c.args.self.now.bytes.ok.0))) at c.extend_from_slice.ensures.items
