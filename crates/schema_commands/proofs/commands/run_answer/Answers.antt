@@ -16,9 +16,3 @@ returns-in_err-answer_io g c =
       c.standard-limits.ensures,
       inr (ok.compiled, ok.ensures.compiled, err.field-0.0, refl, err.ensures.exchange),
     )
-
-pub returns : goal.returns
-returns g c =
-    let limits = c.standard-limits in
-    let ok = c.in_ok-compiled in
-    (limits.result, limits.ensures, ok.compiled, ok.ensures.compiled, c.in_ok-answer_io.ensures.exchange)

@@ -1,8 +1,7 @@
 use Rattle.schema_commands.proofs.Telling.{handed_on}
-use Rattle.std.proofs.Common.{◌∙◌, ◌++◌, List, ℕ, [], ap, arith, get_or, refl, subst, sym, take}
+use Rattle.std.proofs.Common.{◌∙◌, ◌++◌, List, ℕ, [], ap, arith, get_or, subst, take}
 use Rattle.std.specs.Prelude.{Err, Ok, flat_map}
-use Rattle.std.proofs.KnownBytes.{Appends-nil}
-use Rattle.std.proofs.lemmas.List.{append-nil, take_all}
+use Rattle.std.proofs.lemmas.List.{take_all}
 use Rattle.proto_compile.specs.Compilation.{bytes_at}
 use Rattle.wire_format.specs.Field.{bytes_field}
 use Rattle.schema_commands.specs.Runs.{IsOutput}
@@ -18,10 +17,6 @@ bytes_at-requires g c =
       sound.linked,
       file_below c.set_order-file-items.result.now _ _ _ same sound.inside c.loop-file-test.true,
     )
-
-pub loop-file-init : goal.loop-file-init
-loop-file-init g c =
-    ([], record { taken = sym (append-nil _); failures = refl; contents = Appends-nil _ }, c.clear.ensures)
 
 pub loop-file-preserved : goal.loop-file-preserved
 loop-file-preserved g c =
