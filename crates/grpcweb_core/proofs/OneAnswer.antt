@@ -5,7 +5,7 @@ use Rattle.grpcweb_core.specs.Http.{Answer, IsAnswer, Request, answered, elsewhe
 use Rattle.proto_base.specs.declared.limits.Limits.{Limits}
 use Rattle.proto_compile.specs.Compilation.{Compilation, IsCompiled}
 use Rattle.proto_compile.specs.declared.source.Source.{Source}
-use Rattle.reflect_core.proofs.OneResponse.{one_response}
+use Rattle.reflect_core.proofs.OneResponse.{is_one, one_response}
 
 module _ (limits : Limits) (sources : List Source) (c d : Compilation) (mode : Mode) (request : Request) where
   pub one_answer : (a b : Answer) → IsCompiled limits sources c → IsCompiled limits sources d
@@ -26,4 +26,4 @@ module _ (limits : Limits) (sources : List Source) (c d : Compilation) (mode : M
   one_answer _ _ of too (answered _ _ post _ _) (no_post _ method) = absurd (method post)
   one_answer _ _ of too (answered _ _ _ type _) (no_grpc_web _ _ other) = absurd (other type)
   one_answer _ _ of too (answered r _ _ _ is) (answered s _ _ _ also) =
-      ap framed (one_response limits sources c d mode request.body r s of too is also)
+      ap framed (one_response c d (is_one limits sources c d of too) mode request.body r s is also)

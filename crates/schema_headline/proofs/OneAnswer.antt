@@ -6,7 +6,7 @@ use Rattle.proto_base.specs.declared.limits.Limits.{Limits}
 use Rattle.proto_compile.specs.Compilation.{Compilation, CompiledFile, IsCompiled, bytes_at}
 use Rattle.proto_compile.specs.declared.source.Source.{Source}
 use Rattle.proto_compile.proofs.OneCompilation.{one_compilation}
-use Rattle.reflect_core.proofs.OneResponse.{one_response}
+use Rattle.reflect_core.proofs.OneResponse.{is_one, one_response}
 use Rattle.schema_headline.specs.Describe.{IsDescribedBy}
 use Rattle.schema_headline.specs.Headline.{IsResponseOf, IsSetOf}
 use Rattle.schema_headline.proofs.Describing.{only_file}
@@ -31,7 +31,7 @@ pub one_response_of : (mode : Mode) (limits : Limits) (sources : List Source) (b
     → IsResponseOf mode limits sources body a
     → IsResponseOf mode limits sources body b → a ≡ b
 one_response_of mode limits sources body a b (c, is, at) (d, is', at') =
-    one_response limits sources c d mode body a b is is' at at'
+    one_response c d (is_one limits sources c d is is') mode body a b at at'
 
 -- what is given is of sources that are compiled
 pub described_from : (limits : Limits) (s : Source) (a : List ℕ) → IsDescribedBy limits s a
