@@ -1,8 +1,8 @@
 -- From the first fault of sources to those that are told.
 use Rattle.std.proofs.Common.{◌≡◌, ◌≢◌, sym, ap, subst, refl, List, [], ◌∷◌, inl, inr, Option, Some, map, arith}
-use Rattle.file_faults.specs.FileFaults.{AreFileFaults, NamesDiffer}
+use Rattle.file_faults.specs.FileFaults.{AreFileFaults, HasFault, NamesDiffer}
 use Rattle.file_faults.proofs.Placing.{placed}
-use Rattle.file_faults.proofs.Telling.{SomeHas, every_fault, no_other}
+use Rattle.file_faults.proofs.Telling.{every_fault, no_other}
 use Rattle.proto_base.specs.declared.fault.Fault.{Fault}
 use Rattle.proto_base.specs.declared.kind.Kind.TheVariants as kind
 use Rattle.proto_base.specs.declared.limits.Limits.{Limits}
@@ -12,11 +12,12 @@ use Rattle.proto_compile.specs.declared.error.CompileError.{CompileError}
 use Rattle.proto_compile.specs.declared.error.CompileError.TheVariants as errors
 use Rattle.proto_compile.specs.declared.source.Source.{Source}
 use Rattle.schema_check.specs.Told.{ArePlaced, AreTold, IsFirst}
+use Rattle.std.specs.Prelude.{Contains}
 use Rattle.share_work.proofs.Sums.{in_map, none_in}
 
 -- what is broken in the pass over each source by itself is a source's own fault
 own_fault : (limits : Limits) (sources : List Source) (x : SourceFault) → Breaks limits sources x → x.pass ≡ 1
-    → SomeHas limits sources x
+    → (s : Source) × Contains sources s × HasFault limits s x
 own_fault limits sources _ (many_files over) pass = absurd (omega (arith, pass))
 own_fault limits sources _ (repeated_file_name i j less below same) pass = absurd (omega (arith, pass))
 own_fault limits sources _ (file_fault s f inside fault) pass = (s, inside, (f, fault, refl))
