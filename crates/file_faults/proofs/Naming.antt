@@ -5,7 +5,7 @@ use Rattle.proto_base.specs.declared.file_fault.FileFault.{FileFault}
 use Rattle.proto_base.specs.declared.limits.Limits.{Limits}
 use Rattle.proto_compile.specs.FaultSet.{SourceFault}
 use Rattle.proto_compile.specs.declared.source.Source.{Source}
-use Rattle.file_faults.specs.FileFaults.{AreFileFaults, none, sound, faulty}
+use Rattle.file_faults.specs.OwnFaults.{AreFileFaults, none, sound, faulty}
 use Rattle.file_faults.specs.Found.{IsFoundIn, added_by, faults_in}
 
 -- ---- one source after another

@@ -11,7 +11,7 @@ use Rattle.proto_compile.specs.declared.source.Source.{Source}
 use Rattle.proto_compile.proofs.OneTyping.{standing_one}
 use Rattle.proto_compile.proofs.Sorting.{name_of_item}
 use Rattle.proto_file.proofs.LocalPlaces.{fault_inside}
-use Rattle.file_faults.specs.FileFaults.{AreFileFaults, NamesDiffer}
+use Rattle.file_faults.specs.OwnFaults.{AreFileFaults, NamesDiffer}
 use Rattle.file_faults.proofs.Telling.{no_other}
 
 -- of sources whose names differ, only one has a name

@@ -15,7 +15,7 @@ use Rattle.proto_compile.proofs.LeastFault.{local_least}
 use Rattle.proto_desc.specs.declared.file.FileDesc.{FileDesc}
 use Rattle.proto_file.specs.Local.{IsLocalFault}
 use Rattle.proto_file.proofs.OneLocal.{no_local, one_local}
-use Rattle.file_faults.specs.FileFaults.{AreFileFaults, HasFault, none, sound, faulty}
+use Rattle.file_faults.specs.OwnFaults.{AreFileFaults, HasFault, none, sound, faulty}
 use Rattle.share_work.proofs.Sums.{none_in, behind}
 
 -- ---- the first one

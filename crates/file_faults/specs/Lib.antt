@@ -1,2 +1,2 @@
-pub mod FileFaults
 pub mod Found
+pub mod OwnFaults

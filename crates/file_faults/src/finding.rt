@@ -1,7 +1,7 @@
 //! The faults of sources, each by itself, by workers.
 
 ghost use Rattle.std.specs.Prelude.{◌≡◌, ◌≤◌, [], ◌∷◌, ◌++◌, List, IfOk, OnOk, length, map};
-ghost use Rattle.file_faults.specs.FileFaults.{AreFileFaults};
+ghost use Rattle.file_faults.specs.OwnFaults.{AreFileFaults};
 ghost use Rattle.file_faults.specs.Found.{added_by, faults_in};
 ghost use Rattle.proto_base.specs.Limits.{limit_of};
 ghost use Rattle.proto_base.specs.declared.fault.Fault.{Fault};

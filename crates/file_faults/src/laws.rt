@@ -1,7 +1,7 @@
 //! Laws over the definitions.
 
 ghost use Rattle.std.specs.Prelude.{◌≡◌, ◌≤◌, ℕ, List, Contains, length};
-ghost use Rattle.file_faults.specs.FileFaults.{AreFileFaults, HasFault, NamesDiffer};
+ghost use Rattle.file_faults.specs.OwnFaults.{AreFileFaults, HasFault, NamesDiffer};
 ghost use Rattle.proto_base.specs.Limits.{limit_of};
 ghost use Rattle.proto_base.specs.declared.limits.Limit.TheVariants as limit;
 ghost use Rattle.proto_base.specs.declared.limits.Limits.{Limits};

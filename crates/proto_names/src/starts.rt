@@ -43,8 +43,8 @@ fn fill_to(counts: &mut Vec<u32>, len: usize, number: u32) -> Result<(), AllocEr
 /// How many entries there are for each slot.
 const ENTRIES_IN_A_SLOT: usize = 4;
 
-/// Where the slots of entries begin. The keys of a slot's entries share a line of the processor's memory, and
-/// the slots take little of it.
+/// Where the slots of entries begin. Most slots' keys lie within one line of the processor's memory, and the slots
+/// themselves take little of it.
 pub(crate) fn starts_of(alloc: Global, names: &Names) -> Result<Starts, AllocError>
     requires order { AreInHashOrder names.now }
     requires many { length names.now ≤ 1_048_576 }

@@ -1,6 +1,6 @@
 -- From the first fault of sources to those that are told.
 use Rattle.std.proofs.Common.{◌≡◌, ◌≢◌, sym, ap, subst, refl, List, [], ◌∷◌, inl, inr, Option, Some, map, arith}
-use Rattle.file_faults.specs.FileFaults.{AreFileFaults, HasFault, NamesDiffer}
+use Rattle.file_faults.specs.OwnFaults.{AreFileFaults, HasFault, NamesDiffer}
 use Rattle.file_faults.proofs.Placing.{placed}
 use Rattle.file_faults.proofs.Telling.{every_fault, no_other}
 use Rattle.proto_base.specs.declared.fault.Fault.{Fault}

@@ -1,6 +1,6 @@
 -- Which faults of sources are told.
 use Rattle.std.specs.Prelude.{◌≡◌, ◌≢◌, ◌⊎◌, ◌-◌, ◌^◌, ◌<◌, ◌≤◌, List, [], ◌∷◌, Option, None, Some, Contains, length, map, string_bytes}
-use Rattle.file_faults.specs.FileFaults.{AreFileFaults}
+use Rattle.file_faults.specs.OwnFaults.{AreFileFaults}
 use Rattle.proto_base.specs.declared.fault.Fault.{Fault}
 use Rattle.proto_base.specs.declared.limits.Limits.{Limits}
 use Rattle.proto_compile.specs.Compilation.{Compilation, IsCompiled}

@@ -68,7 +68,11 @@ where
     }
 }
 
-/// What each item gives, in the order of the items, as `in_shares` has it of workers that keep nothing.
+/// What each item gives, in the order of the items, by workers that keep nothing.
+///
+/// Each worker goes through the gate with `phase` and the piece's number as it begins a piece. Threads are those of
+/// `in_shares`: the calling one, where one worker has all pieces, and else one for each worker with a piece. An answer is
+/// `AllocError` where memory is refused, to the call or to an item. All workers have ended when it comes.
 pub fn each_in_shares<R, G, T, W, O>(
     rt: &R,
     plan: Plan,

@@ -2,7 +2,7 @@ use Rattle.std.proofs.Common.{List, map, subst, sym}
 use Rattle.std.specs.Prelude.{Vec}
 use Rattle.std.specs.declared.alloc.Global.{Global}
 use Rattle.std.proofs.lemmas.Result.{IfOk-weaker}
-use Rattle.file_faults.specs.FileFaults.{AreFileFaults}
+use Rattle.file_faults.specs.OwnFaults.{AreFileFaults}
 use Rattle.proto_base.specs.declared.fault.Fault.{Fault}
 use Rattle.proto_compile.specs.FaultSet.{told_by}
 use Rattle.schema_check.specs.Told.{ArePlaced, AreTold}
