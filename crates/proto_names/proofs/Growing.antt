@@ -1,6 +1,6 @@
 -- Entries whose names stand in a text that only grows.
 use Rattle.std.proofs.lemmas.Grind.{common_steps}
-use Rattle.std.proofs.Common.{◌≡◌, ◌∙◌, ap, refl, ℕ, zero, suc, ◌+◌, ◌-◌, ◌≤◌, List, [], ◌∷◌, ◌++◌, length, map, arith, length-append, length-drop, length-take-le}
+use Rattle.std.proofs.Common.{◌≡◌, ◌∙◌, ap, refl, ℕ, zero, suc, ◌+◌, ◌-◌, ◌≤◌, List, [], ◌∷◌, ◌++◌, length, map, arith, length-append, length-drop}
 use Rattle.std.specs.Prelude.{IsAscii, IsUtf8}
 use Rattle.std.proofs.lemmas.List.{drop-append-le, take-append-le, drop_at, take_all, map_push}
 use Rattle.std.proofs.lemmas.List.Elements.{All-head, All-tail, All-push, All-weaker}
@@ -44,9 +44,6 @@ occurrences_more old new (e ∷ es) prefix of = cc (
   name_more old new e prefix (All-head (IsEntryOf old) e es of),
   occurrences_more old new es prefix (All-tail (IsEntryOf old) e es of),
 )
-
-pub name_length : (text : List ℕ) (e : Entry) → IsEntryOf text e → length (name_at text e) ≡ e.len
-name_length text e is = grind (arith, common_steps, length-drop, length-take-le)
 
 -- ---- an entry more, whose name goes behind the text
 

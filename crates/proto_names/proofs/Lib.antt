@@ -16,7 +16,6 @@ pub mod Packing
 pub mod Repeating
 pub mod Searching
 pub mod Shared
-pub mod Standing
 pub mod Tabled
 pub mod TellingScopes
 pub mod Unhashing

@@ -1,8 +1,7 @@
 -- Occurrences in shares: together they are all, and what is twice is twice in one of them.
 use Rattle.std.proofs.lemmas.Grind.{common_steps}
-use Rattle.std.proofs.Common.{◌≡◌, ◌∙◌, sym, subst, ℕ, zero, suc, ◌+◌, ◌<◌, ◌≤◌, Bool, true, List, [], ◌∷◌, ◌++◌, length, take, cond, arith}
-use Rattle.std.specs.Prelude.{◌==◌, Some, filter, slice_get}
-use Rattle.std.proofs.lemmas.Bool.{eq-eqb}
+use Rattle.std.proofs.Common.{◌≡◌, ◌∙◌, sym, subst, ℕ, zero, suc, ◌+◌, ◌<◌, ◌≤◌, Bool, List, [], ◌∷◌, ◌++◌, length, take, cond, arith}
+use Rattle.std.specs.Prelude.{◌==◌, Some, slice_get}
 use Rattle.std.proofs.lemmas.List.Elements.{filter_more}
 use Rattle.std.proofs.lemmas.List.Sums.{count_by-le-length, length-filter}
 use Rattle.std.proofs.lemmas.Option.{slice_get_within}
@@ -25,14 +24,6 @@ share_more count position k os told below is = grind (arith, common_steps, filte
 pub share_few : (count position : ℕ) (os : List Occurrence) → length (share_of count position os) ≤ length os
 share_few count position os = grind (arith, common_steps, count_by-le-length, length-filter)
 
-kept_all : (p : Occurrence → Bool) (os : List Occurrence) → ((o : Occurrence) → p o ≡ true) → filter p os ≡ os
-kept_all p [] all = grind (arith, common_steps)
-kept_all p (o ∷ os) all = grind (arith, common_steps, (kept_all p os all))
-
--- one share has all
-pub one_share : (os : List Occurrence) → share_of 1 0 os ≡ os
-one_share os = kept_all (λ o. share_at 1 o == 0) os (λ o. eq-eqb (share_at 1 o) 0 (omega arith))
-
 -- ---- what workers give
 
 pub shares_given : (count : ℕ) (os : List Occurrence) (shares : List Share) (outs : List SortedShare) → 0 < count
@@ -50,12 +41,12 @@ shares_given count os shares outs some all given =
           (subst (λ n. IsSortedOf (share_of s.count n os) out) same.0 (given.1 k s out stands at)));
     }
 
-pub alone_given : (os : List Occurrence) (s : SortedShare) → IsSortedOf os s → AreSharesOf os (s ∷ [])
+pub alone_given : (os : List Occurrence) (s : SortedShare) → IsSortedOf (share_of 1 0 os) s → AreSharesOf os (s ∷ [])
 alone_given os s is = record {
   some = omega arith;
   each = each;
 } where
   each : (k : ℕ) (t : SortedShare) → slice_get (s ∷ []) k ≡ Some t → IsSortedOf (share_of 1 k os) t
   each zero t at = let same : s ≡ t = cc in
-      subst (IsSortedOf (share_of 1 0 os)) same (subst (λ ps. IsSortedOf ps s) (sym (one_share os)) is)
+      subst (IsSortedOf (share_of 1 0 os)) same is
   each (suc k) t at = let within = slice_get_within (s ∷ []) (suc k) t at in absurd (omega (arith, within))

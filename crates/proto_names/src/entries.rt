@@ -1,22 +1,17 @@
 //! The entries of an index: the occurrences of full names, which stand in one text.
 
 ghost use Rattle.std.specs.Prelude.{◌≡◌, ◌<◌, ◌++◌, ◌∷◌, [], length, IfOk, OnOk, string_bytes};
-ghost use Rattle.proto_names.specs.Entries.{IsEntryOf, occurrence};
 ghost use Rattle.proto_names.specs.Hashes.{hash_of};
 ghost use Rattle.proto_names.specs.Order.{location_of};
 ghost use Rattle.proto_names.specs.Runs.{at};
-ghost use Rattle.proto_names.specs.Shares.{share_of};
 ghost use Rattle.proto_desc.specs.DeclaredNames.{scoped};
 
-use crate::entry::{Entry, Location};
+use crate::entry::{Entry, FIRST_LOCATION, Location};
 use crate::full_name::push_name;
 use crate::scope::Scope;
-use crate::share::Share;
-use proto_base::Place;
 use proto_desc::name_kind::NameKind;
 use std::alloc::{AllocError, Global};
 use std::marker::Model;
-use std::str;
 
 /// Entries and the text of their names, in which each name stands behind the last. Contracts see them as the
 /// occurrences that they stand for.
@@ -78,33 +73,6 @@ impl Entries {
         Ok(())
     }
 
-    /// Puts an entry behind the others, whose name stands in another text.
-    fn push_copy(&mut self, text: &[u8], entry: &Entry) -> Result<(), AllocError>
-        requires { IsEntryOf text.now entry.now }
-        ensures { OnOk result (self.new ≡ self.old ++ occurrence text.now entry.now ∷ []) }
-    {
-        let Ok(name) = str::from_utf8(entry.name(text)) else {
-            unreachable!()
-        };
-        let start = self.text.len();
-        self.text.push_str(name)?;
-        self.entries.push(Entry { start, ..*entry })?;
-        Ok(())
-    }
-
-    /// Puts those of other entries that are in a share behind these.
-    pub(crate) fn append_share(&mut self, others: &Entries, share: Share) -> Result<(), AllocError>
-        ensures { OnOk result (self.new ≡ self.old ++ share_of share.count share.position others.now) }
-    {
-        let text = others.text.as_bytes();
-        for entry in &others.entries {
-            if share.has(entry.hash) {
-                self.push_copy(text, entry)?;
-            }
-        }
-        Ok(())
-    }
-
     /// How many entries there are.
     pub(crate) fn len(&self) -> usize
         ensures { result ≡ length self.now }
@@ -144,10 +112,7 @@ impl Entries {
     {
         match self.entries.get(position) {
             Some(entry) => entry.location,
-            None => Location {
-                file: 0,
-                place: Place { offset: 0 },
-            },
+            None => FIRST_LOCATION,
         }
     }
 

@@ -14,6 +14,12 @@ pub(crate) struct Location {
     pub(crate) place: Place,
 }
 
+/// The first byte of the first file.
+pub(crate) const FIRST_LOCATION: Location = Location {
+    file: 0,
+    place: Place { offset: 0 },
+};
+
 /// A full name in a file, by where it stands in the text of all names.
 #[derive(Clone, Copy)]
 pub(crate) struct Entry {

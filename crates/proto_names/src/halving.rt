@@ -7,24 +7,23 @@ ghost use Rattle.std.specs.Ordering.{nat_cmp, is_eq, is_lt, ordering_then};
 ghost use Rattle.std.specs.declared.cmp.Ordering.TheVariants.{Less};
 ghost use Rattle.proto_desc.specs.DeclaredNames.{scoped};
 ghost use Rattle.proto_names.specs.Starts.{IsNowhere, IsStart};
-ghost use Rattle.proto_names.specs.Keys.{hash_in, position_in};
+ghost use Rattle.proto_names.specs.Keys.{at_key, hash_in};
 ghost use Rattle.proto_names.specs.Order.{AreInHashOrder, name_cmp};
-ghost use Rattle.proto_names.specs.Runs.{at};
 
-use crate::entries::Entries;
+use crate::collected::Collected;
 use crate::full_name::compare;
-use crate::keys::{hash_in, position_in};
+use crate::keys::hash_in;
 use crate::names::Names;
 use crate::scope::Scope;
 use std::cmp::Ordering;
 
-/// The order of the name that a key finds among entries, and the name in a scope that has this hash.
-fn compare_found(entries: &Entries, key: u64, hash: u32, scope: &str, name: &str) -> Ordering
+/// The order of the name that a key finds, and the name in a scope that has this hash.
+fn compare_found(collected: &Collected, key: u64, hash: u32, scope: &str, name: &str) -> Ordering
     ensures { result ≡ ordering_then (nat_cmp (hash_in key) hash)
-        (slice_cmp nat_cmp (at entries.now (position_in key)).name (scoped scope.now name.now)) }
+        (slice_cmp nat_cmp (at_key collected.now key).name (scoped scope.now name.now)) }
 {
     let order = hash_in(key).cmp(&hash);
-    order.then(compare(entries.name(position_in(key)), scope, name))
+    order.then(compare(collected.name(key), scope, name))
 }
 
 /// How many entries come before the name in a scope.
@@ -35,14 +34,14 @@ fn count_before(names: &Names, scope: Scope, name: &str) -> usize
         ≡ Less) (λ o. name_cmp o.name (scoped scope.entry.text.now name.now) ≢ Less) names.now
         result }
 {
-    let entries = names.entries;
+    let collected = names.collected;
     let hash = scope.hash_with(name);
     names.keys.partition_point(
         |key: &u64| -> bool
             ensures { result ≡ is_lt (ordering_then (nat_cmp (hash_in key.now) hash)
-                (slice_cmp nat_cmp (at entries.entry.now (position_in key.now)).name
+                (slice_cmp nat_cmp (at_key collected.entry.now key.now).name
                 (scoped scope.entry.text.now name.entry.now))) }
-        { compare_found(entries, *key, hash, scope.text, name).is_lt() },
+        { compare_found(collected, *key, hash, scope.text, name).is_lt() },
     )
 }
 
@@ -68,11 +67,11 @@ pub(crate) fn count_named(names: &Names, scope: &str, name: &str) -> usize
     ensures point { IsPartitionPoint (λ o. o.name ≡ scoped scope.now name.now)
         (λ o. o.name ≢ scoped scope.now name.now) names.now result }
 {
-    let entries = names.entries;
+    let collected = names.collected;
     names.keys.partition_point(
         |key: &u64| -> bool
-            ensures { result ≡ is_eq (slice_cmp nat_cmp (at entries.entry.now (position_in key.now)).name
+            ensures { result ≡ is_eq (slice_cmp nat_cmp (at_key collected.entry.now key.now).name
                 (scoped scope.entry.now name.entry.now)) }
-        { compare(entries.name(position_in(*key)), scope, name).is_eq() },
+        { compare(collected.name(*key), scope, name).is_eq() },
     )
 }

@@ -1,73 +1,128 @@
-//! Keys, by which entries are found and ordered: the hash of an entry's name, and below it the entry's position. So entries are
-//! put in order without moving one, and most are compared without a look at them.
+//! Keys, by which entries are found and ordered: the hash of an entry's name, and below it where the entry was collected. So
+//! entries are put in order without moving one, and most are compared without a look at them.
 
-ghost use Rattle.std.specs.Prelude.{◌≡◌, ◌<◌, ◌≤◌, ◌%◌, ◌/◌, ◌^◌, IfOk, IsPermutation, IsSorted, OnOk, length};
-ghost use Rattle.proto_names.specs.Keys.{AreKeysOf, hash_in, key_cmp, position_in};
+ghost use Rattle.std.specs.Prelude.{◌≡◌, ◌+◌, ◌<◌, ◌≤◌, ◌%◌, ◌/◌, ◌^◌, IfOk, IsPermutation, IsSorted, OnOk, length, take};
+ghost use Rattle.proto_names.specs.Keys.{AreKeysOf, hash_in, index_in, key_cmp, part_at, part_in};
+ghost use Rattle.proto_names.specs.Shares.{all_of, share_of};
 
-use crate::entries::Entries;
+use crate::collected::Collected;
+use crate::share::Share;
 use std::alloc::{AllocError, Global};
 use std::cmp::Ordering;
 
-/// More than any position of an entry.
-const POSITIONS: u64 = 4_294_967_296;
+/// More than any index of an entry in its part.
+const INDEXES: u64 = 1_048_576;
 
-/// The position of the entry of a key.
-pub(crate) fn position_in(key: u64) -> usize
-    ensures { result ≡ position_in key }
+/// More than the number of any part.
+const PARTS: u64 = 4096;
+
+/// The index of a key's entry in its part.
+pub(crate) fn index_in(key: u64) -> usize
+    ensures { result ≡ index_in key }
 {
-    (key % POSITIONS) as usize
+    (key % INDEXES) as usize
+}
+
+/// The number of the part of a key's entry.
+pub(crate) fn part_in(key: u64) -> usize
+    ensures { result ≡ part_in key }
+{
+    (key / INDEXES % PARTS) as usize
 }
 
 /// The hash of the name of a key's entry.
 pub(crate) fn hash_in(key: u64) -> u32
     ensures { result ≡ hash_in key }
 {
-    (key / POSITIONS) as u32
+    (key / (INDEXES * PARTS)) as u32
 }
 
-/// The keys of entries, in the order of these.
-pub(crate) fn keys_of(alloc: Global, entries: &Entries) -> Result<Vec<u64>, AllocError>
-    requires { length entries.now ≤ 1_048_576 }
-    ensures { IfOk result (λ keys. AreKeysOf entries.now keys.items) }
+/// The key of an entry, by its name's hash.
+fn key_of(hash: u32, part: usize, index: usize) -> u64
+    requires part { part < 4096 }
+    requires index { index < 1_048_576 }
+    ensures hash { hash_in result ≡ hash }
+    ensures part { part_in result ≡ part }
+    ensures index { index_in result ≡ index }
 {
-    let mut keys = Vec::with_capacity(alloc, entries.len())?;
-    for position in 0..entries.len() {
-        keys.push(u64::from(entries.hash(position)) * POSITIONS + position as u64)?;
+    (u64::from(hash) * PARTS + part as u64) * INDEXES + index as u64
+}
+
+/// Puts the keys of those entries of a part that are in a share behind those of the parts before.
+fn put_keys(
+    keys: &mut Vec<u64>,
+    collected: &Collected,
+    part: usize,
+    share: Share,
+) -> Result<(), AllocError>
+    requires part { part < length collected.now }
+    requires parts { length collected.now ≤ 4096 }
+    requires few { length (part_at collected.now part) ≤ 1_048_576 }
+    requires before { AreKeysOf
+        (share_of share.count share.position (all_of (take part collected.now))) collected.now
+        keys.old.items }
+    ensures { OnOk result (AreKeysOf
+        (share_of share.count share.position (all_of (take (part + 1) collected.now))) collected.now
+        keys.new.items) }
+{
+    let entries = &collected.parts[part];
+    for index in 0..entries.len() {
+        let hash = entries.hash(index);
+        if share.has(hash) {
+            keys.push(key_of(hash, part, index))?;
+        }
+    }
+    Ok(())
+}
+
+/// The keys of the entries that are in a share, in the order in which these were collected.
+pub(crate) fn keys_of(
+    alloc: Global,
+    collected: &Collected,
+    share: Share,
+) -> Result<Vec<u64>, AllocError>
+    requires parts { length collected.now ≤ 4096 }
+    requires few { length (all_of collected.now) ≤ 1_048_576 }
+    ensures { IfOk result (λ keys. AreKeysOf
+        (share_of share.count share.position (all_of collected.now)) collected.now keys.items) }
+{
+    let mut keys = Vec::new(alloc);
+    for part in 0..collected.parts.len() {
+        put_keys(&mut keys, collected, part, share)?;
     }
     Ok(keys)
 }
 
-/// The order of what keys find among entries: by the hash, then by name, file and place. The hash comes first, so that few names
-/// are compared.
-fn compare_keys(entries: &Entries, first: u64, second: u64) -> Ordering
-    ensures { result ≡ key_cmp entries.now first second }
+/// The order of what keys find: by the hash, then by name, file and place. The hash comes first, so that few names are
+/// compared.
+fn compare_keys(collected: &Collected, first: u64, second: u64) -> Ordering
+    ensures { result ≡ key_cmp collected.now first second }
 {
     match hash_in(first).cmp(&hash_in(second)) {
         Ordering::Equal => {
-            let (first, second) = (position_in(first), position_in(second));
-            let names = entries.name(first).cmp(entries.name(second));
-            names.then(entries.location(first).cmp(&entries.location(second)))
+            let names = collected.name(first).cmp(collected.name(second));
+            names.then(collected.location(first).cmp(&collected.location(second)))
         }
         unequal => unequal,
     }
 }
 
-/// Sorts keys by what they find among entries, in place. As numbers they are sorted first, which is fast. What is left are the
-/// names of one hash, and the second sort keeps the long runs that are in order.
+/// Sorts keys by what they find, in place. As numbers they are sorted first, which is fast. What is left are the names of one
+/// hash, and the second sort keeps the long runs that are in order.
 pub(crate) fn sort_keys(
     alloc: Global,
-    entries: &Entries,
+    collected: &Collected,
     keys: &mut [u64],
 ) -> Result<(), AllocError>
     ensures all { IsPermutation keys.old keys.new }
     ensures len { length keys.new ≡ length keys.old }
-    ensures order { OnOk result (IsSorted (key_cmp entries.now) keys.new) }
+    ensures order { OnOk result (IsSorted (key_cmp collected.now) keys.new) }
 {
     keys.sort_unstable();
     keys.sort_by(
         alloc,
         |first: &u64, second: &u64| -> Ordering
-            ensures { result ≡ key_cmp entries.entry.now first.now second.now }
-        { compare_keys(entries, *first, *second) },
+            ensures { result ≡ key_cmp collected.entry.now first.now second.now }
+        { compare_keys(collected, *first, *second) },
     )
 }

@@ -4,12 +4,14 @@
 #![tactic(auto)]
 
 mod collect;
+mod collected;
 mod entries;
 mod entry;
 mod full_name;
 mod halving;
 mod hashing;
 mod index;
+mod keyed_entries;
 mod keys;
 mod names;
 mod packages;
@@ -21,7 +23,6 @@ mod scope_hashes;
 mod share;
 mod shares;
 mod sorted;
-mod sorted_entries;
 mod starts;
 mod table;
 mod tables;

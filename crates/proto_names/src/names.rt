@@ -7,10 +7,10 @@ ghost use Rattle.proto_names.specs.Keys.{AreKeysAmong, found_by};
 ghost use Rattle.proto_names.specs.Order.{location_of};
 ghost use Rattle.proto_names.specs.Runs.{at};
 
-use crate::entries::Entries;
+use crate::collected::Collected;
 use crate::entry::Location;
 use crate::full_name::is_name_in;
-use crate::keys::{hash_in, position_in};
+use crate::keys::hash_in;
 use proto_desc::name_kind::NameKind;
 use std::alloc::{AllocError, Global};
 use std::marker::Model;
@@ -18,7 +18,7 @@ use std::marker::Model;
 /// Entries that are found by keys, in the order of these. Contracts see them as the occurrences that they stand for.
 #[derive(Drop)]
 pub(crate) struct Names<'e> {
-    pub(crate) entries: &'e Entries,
+    pub(crate) collected: &'e Collected,
     pub(crate) keys: &'e [u64],
 }
 
@@ -29,18 +29,18 @@ impl<'e> Model for Names<'e> {
 
     ghost Value = { List Occurrence };
 
-    ghost view = { λ names. found_by names.entries.now names.keys.now };
+    ghost view = { λ names. found_by names.collected.now names.keys.now };
 
-    ghost invariant = { λ names. AreKeysAmong names.entries.now names.keys.now };
+    ghost invariant = { λ names. AreKeysAmong names.collected.now names.keys.now };
 }
 
 impl<'e> Names<'e> {
-    /// What these keys find among entries.
-    pub(crate) fn new(entries: &'e Entries, keys: &'e [u64]) -> Names<'e>
-        requires { AreKeysAmong entries.now keys.now }
-        ensures { result ≡ found_by entries.now keys.now }
+    /// What these keys find.
+    pub(crate) fn new(collected: &'e Collected, keys: &'e [u64]) -> Names<'e>
+        requires { AreKeysAmong collected.now keys.now }
+        ensures { result ≡ found_by collected.now keys.now }
     {
-        Names { entries, keys }
+        Names { collected, keys }
     }
 
     /// How many entries there are.
@@ -64,8 +64,8 @@ impl<'e> Names<'e> {
         requires { position < length self.now }
         ensures { result.now ≡ (at self.now position).name }
     {
-        let entries = self.entries;
-        entries.name(position_in(self.keys[position]))
+        let (collected, keys) = (self.collected, self.keys);
+        collected.name(keys[position])
     }
 
     /// The name at a position, as a text of its own.
@@ -74,7 +74,7 @@ impl<'e> Names<'e> {
         ensures { IfOk result (λ text. string_bytes text ≡ (at self.now position).name) }
     {
         let keys = self.keys;
-        self.entries.to_text(alloc, position_in(keys[position]))
+        self.collected.to_text(alloc, keys[position])
     }
 
     /// What the name at a position is declared for; none where it is a package.
@@ -82,7 +82,7 @@ impl<'e> Names<'e> {
         requires { position < length self.now }
         ensures { result ≡ (at self.now position).kind }
     {
-        self.entries.kind(position_in(self.keys[position]))
+        self.collected.kind(self.keys[position])
     }
 
     /// Where the name at a position stands.
@@ -90,7 +90,7 @@ impl<'e> Names<'e> {
         requires { position < length self.now }
         ensures { result ≡ location_of (at self.now position) }
     {
-        self.entries.location(position_in(self.keys[position]))
+        self.collected.location(self.keys[position])
     }
 
     /// Whether the entry at a position has the name in a scope.
@@ -116,7 +116,7 @@ impl<'e> Names<'e> {
         ensures { result ≡ drop count self.now }
     {
         Names {
-            entries: self.entries,
+            collected: self.collected,
             keys: &self.keys[count..],
         }
     }
@@ -127,7 +127,7 @@ impl<'e> Names<'e> {
         ensures { result ≡ take count self.now }
     {
         Names {
-            entries: self.entries,
+            collected: self.collected,
             keys: &self.keys[..count],
         }
     }

@@ -1,11 +1,11 @@
 //! Collecting the occurrences in files, which are dealt out to threads in parts.
 
-ghost use Rattle.std.specs.Prelude.{◌<◌, IfOk};
-ghost use Rattle.std.specs.Option.{option_map};
+ghost use Rattle.std.specs.Prelude.{◌≡◌, ◌<◌, ◌≤◌, IfOk, IfSome, length};
 ghost use Rattle.proto_names.specs.Collected.{AreCollected, ArePartsOf, ArePlaced, IsCollected, files_in};
 ghost use Rattle.share_work.specs.Shares.{GivesItems};
 
 use crate::collect::collect_files;
+use crate::collected::Collected;
 use crate::entries::Entries;
 use crate::part::Part;
 use proto_desc::file::FileDesc;
@@ -42,24 +42,25 @@ impl<'f, 's> ItemWork<Part<'f, 's>> for Collecting {
 /// How many threads collect, and then sort.
 pub(crate) const THREADS: u32 = 4;
 
-/// Files in parts of so many.
+/// Files in so many parts, each of which has as many as another, or one more.
 fn parts_of<'f, 's>(
     alloc: Global,
     files: &'f [FileDesc<'s>],
-    size: usize,
+    count: usize,
 ) -> Result<Vec<Part<'f, 's>>, AllocError>
-    requires { 0 < size }
-    ensures { IfOk result (λ parts. ArePartsOf files.now parts.items) }
+    requires { 0 < count }
+    ensures parts { IfOk result (λ parts. ArePartsOf files.now parts.items) }
+    ensures count { IfOk result (λ parts. length parts.items ≡ count) }
 {
-    let mut parts = Vec::new(alloc);
+    let mut parts = Vec::with_capacity(alloc, count)?;
     let mut first = 0;
-    while first < files.len() {
-        let count = size.min(files.len() - first);
+    for k in 0..count {
+        let end = first + (files.len() - first) / (count - k);
         parts.push(Part {
             first,
-            files: &files[first..first + count],
+            files: &files[first..end],
         })?;
-        first += count;
+        first = end;
     }
     Ok(parts)
 }
@@ -84,12 +85,12 @@ fn within(
     parts: &[Part],
     outs: Vec<Option<Entries>>,
     limit: u64,
-) -> Result<Option<Vec<Entries>>, AllocError>
+) -> Result<Option<Collected>, AllocError>
     requires placed { ArePlaced parts.now }
     requires outs { GivesItems (λ _ part. IsCollected limit part.first part.files.now) 0 parts.now
         outs.items }
-    ensures { IfOk result (λ found. AreCollected limit (files_in parts.now)
-        (option_map (λ all. all.items) found)) }
+    ensures all { IfOk result (AreCollected limit (files_in parts.now)) }
+    ensures parts { IfOk result (λ found. IfSome found (λ all. length all ≤ length parts.now)) }
 {
     let mut all = Vec::with_capacity(alloc, outs.len())?;
     let mut count = 0;
@@ -104,7 +105,7 @@ fn within(
         count += len;
         all.push(entries)?;
     }
-    Ok(Some(all))
+    Ok(Some(Collected { parts: all }))
 }
 
 /// The occurrences in files, in parts, or none where they are more than the limit.
@@ -112,15 +113,14 @@ pub(crate) fn collect_in_threads<R>(
     rt: &R,
     files: &[FileDesc],
     limit: u64,
-) -> Result<Option<Vec<Entries>>, AllocError>
+) -> Result<Option<Collected>, AllocError>
 where
     R: Threads + AllocGlobal + Sync,
-    ensures { IfOk result (λ found. AreCollected limit files.now
-        (option_map (λ all. all.items) found)) }
+    ensures all { IfOk result (AreCollected limit files.now) }
+    ensures parts { IfOk result (λ found. IfSome found (λ all. length all ≤ 4)) }
 {
     let alloc = rt.alloc();
-    let size = files.len() / THREADS as usize + 1;
-    let parts = parts_of(alloc, files, size)?;
+    let parts = parts_of(alloc, files, THREADS as usize)?;
     let outs = collect_each(rt, &parts, limit)?;
     within(alloc, &parts, outs, limit)
 }

@@ -4,7 +4,7 @@ ghost use Rattle.std.specs.Prelude.{◌≡◌, ◌<◌, ◌≤◌, IfOk, length}
 ghost use Rattle.bit_matrix.specs.Changes.{columns_of};
 ghost use Rattle.proto_names.specs.ScopeHashes.{TellsScopes, tells};
 
-use crate::entries::Entries;
+use crate::names::Names;
 use crate::starts::slot_of;
 use crate::visible::Role;
 use bit_matrix::BitMatrix;
@@ -23,16 +23,16 @@ pub(crate) struct ScopeHashes {
 
 impl ScopeHashes {
     /// The hashes of the scopes among entries.
-    pub(crate) fn among(alloc: Global, entries: &Entries) -> Result<ScopeHashes, AllocError>
-        requires { length entries.now ≤ 1_048_576 }
-        ensures { IfOk result (λ hashes. TellsScopes entries.now hashes.bits hashes.slots) }
+    pub(crate) fn among(alloc: Global, names: &Names) -> Result<ScopeHashes, AllocError>
+        requires { length names.now ≤ 1_048_576 }
+        ensures { IfOk result (λ hashes. TellsScopes names.now hashes.bits hashes.slots) }
     {
-        let slots = entries.len() + 1;
+        let slots = names.len() + 1;
         let mut bits = BitMatrix::new(alloc, slots);
         bits.push_row()?;
-        for position in 0..entries.len() {
-            if Role::Scope.fits(entries.kind(position)) {
-                bits.insert(0, slot_of(slots, entries.hash(position)));
+        for position in 0..names.len() {
+            if Role::Scope.fits(names.kind(position)) {
+                bits.insert(0, slot_of(slots, names.hash(position)));
             }
         }
         Ok(ScopeHashes { bits, slots })

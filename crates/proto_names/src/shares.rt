@@ -2,11 +2,11 @@
 
 ghost use Rattle.std.specs.Prelude.{◌≡◌, ◌<◌, ◌≤◌, All, IfOk, IfSome, MatchOption, length};
 ghost use Rattle.proto_names.specs.Occurrences.{occurrences};
-ghost use Rattle.proto_names.specs.Shares.{AreAllShares, AreSharesOf, all_of, share_of};
+ghost use Rattle.proto_names.specs.Shares.{AreAllShares, AreSharesOf, all_of};
 ghost use Rattle.share_work.specs.Shares.{GivesItems};
 
 use crate::collect::collect_files;
-use crate::entries::Entries;
+use crate::collected::Collected;
 use crate::parts::{THREADS, collect_in_threads};
 use crate::share::Share;
 use crate::sorted::{SortedShare, sort_share};
@@ -14,26 +14,17 @@ use crate::threading::Threading;
 use proto_desc::file::FileDesc;
 use share_work::{FEWEST_SHARED, ItemWork, NoGate, Plan, each_in_shares};
 use std::alloc::{AllocError, AllocGlobal, Global};
+use std::sync::Arc;
 use std::thread::Threads;
 
 /// Sorts the occurrences of shares, each by itself. They stand in so many files.
 #[derive(Drop)]
-struct Sorting<'p> {
-    parts: &'p [Entries],
+struct Sorting<'c> {
+    collected: &'c Arc<Collected>,
     files: usize,
-    ghost few: { length (all_of parts.now) ≤ 1_048_576 },
-    ghost inside: { All (λ o. o.file < files) (all_of parts.now) },
-}
-
-/// The occurrences of a share, of parts.
-fn in_share(alloc: Global, parts: &[Entries], share: Share) -> Result<Entries, AllocError>
-    ensures { IfOk result (λ os. os ≡ share_of share.count share.position (all_of parts.now)) }
-{
-    let mut entries = Entries::new(alloc);
-    for part in parts {
-        entries.append_share(part, share)?;
-    }
-    Ok(entries)
+    ghost parts: { length collected.now.value ≤ 4096 },
+    ghost few: { length (all_of collected.now.value) ≤ 1_048_576 },
+    ghost inside: { All (λ o. o.file < files) (all_of collected.now.value) },
 }
 
 impl ItemWork<Share> for Sorting<'_> {
@@ -45,7 +36,7 @@ impl ItemWork<Share> for Sorting<'_> {
     ghost takes = { λ _ _ _. ⊤ };
 
     ghost gives = { λ work _ share out.
-        IsSortedOf (share_of share.count share.position (all_of work.parts.now)) out };
+        IsSortedOf (share_of share.count share.position (all_of work.collected.now.value)) out };
 
     fn item(
         &self,
@@ -53,8 +44,7 @@ impl ItemWork<Share> for Sorting<'_> {
         _position: usize,
         share: &Share,
     ) -> Result<SortedShare, AllocError> {
-        let entries = in_share(alloc, self.parts, *share)?;
-        sort_share(alloc, entries, self.files)
+        sort_share(alloc, self.collected, *share, self.files)
     }
 }
 
@@ -72,19 +62,24 @@ fn all_shares(alloc: Global, count: u32) -> Result<Vec<Share>, AllocError>
 /// The occurrences of parts, which stand in so many files, in sorted shares.
 fn sort_in_threads<R>(
     rt: &R,
-    parts: &[Entries],
+    collected: Collected,
     files: usize,
 ) -> Result<Vec<SortedShare>, AllocError>
 where
     R: Threads + AllocGlobal + Sync,
-    requires few { length (all_of parts.now) ≤ 1_048_576 }
-    requires inside { All (λ o. o.file < files) (all_of parts.now) }
-    ensures { IfOk result (λ outs. AreSharesOf (all_of parts.now) outs.items) }
+    requires parts { length collected ≤ 4096 }
+    requires few { length (all_of collected) ≤ 1_048_576 }
+    requires inside { All (λ o. o.file < files) (all_of collected) }
+    ensures { IfOk result (λ outs. AreSharesOf (all_of collected) outs.items) }
 {
     let Some(plan) = Plan::new(THREADS, 1) else {
         unreachable!()
     };
-    let work = Sorting { parts, files };
+    let shared = Arc::new(rt.alloc(), collected)?;
+    let work = Sorting {
+        collected: &shared,
+        files,
+    };
     let shares = all_shares(rt.alloc(), THREADS)?;
     each_in_shares(rt, plan, 0, &NoGate, &shares, &work)
 }
@@ -104,7 +99,7 @@ where
         (λ shares. AreSharesOf (occurrences files.now) shares.items)) }
 {
     match collect_in_threads(rt, files, limit)? {
-        Some(parts) => Ok(Some(sort_in_threads(rt, &parts, files.len())?)),
+        Some(collected) => Ok(Some(sort_in_threads(rt, collected, files.len())?)),
         None => Ok(None),
     }
 }
@@ -124,8 +119,14 @@ fn sorted_alone(
     let Some(entries) = collect_files(alloc, 0, files, limit)? else {
         return Ok(None);
     };
+    let collected = Collected::in_one(alloc, entries)?;
+    let shared = Arc::new(alloc, collected)?;
+    let all = Share {
+        position: 0,
+        count: 1,
+    };
     let mut outs = Vec::with_capacity(alloc, 1)?;
-    outs.push(sort_share(alloc, entries, files.len())?)?;
+    outs.push(sort_share(alloc, &shared, all, files.len())?)?;
     Ok(Some(outs))
 }
 

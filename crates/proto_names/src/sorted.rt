@@ -3,17 +3,19 @@
 ghost use Rattle.std.specs.Prelude.{◌≡◌, ◌<◌, ◌≤◌, All, IfOk, length, map, string_bytes};
 ghost use Rattle.proto_names.specs.Index.{is_service_kind, services_of};
 ghost use Rattle.proto_names.specs.ScopeHashes.{TellsScopes};
-ghost use Rattle.proto_names.specs.Shares.{IsSortedOf};
+ghost use Rattle.proto_names.specs.Shares.{IsSortedOf, all_of, share_of};
 
-use crate::entries::Entries;
+use crate::collected::Collected;
 use crate::entry::Location;
+use crate::keyed_entries::KeyedEntries;
 use crate::names::Names;
 use crate::scope_hashes::ScopeHashes;
-use crate::sorted_entries::SortedEntries;
+use crate::share::Share;
 use crate::table::EntryTable;
 use crate::twice::first_twice;
 use proto_desc::name_kind::NameKind;
 use std::alloc::{AllocError, Global};
+use std::sync::Arc;
 
 /// The table of entries, the names of the services among them, and the first that occurs twice.
 #[derive(Drop)]
@@ -48,18 +50,22 @@ fn listed_services(
     Ok(services)
 }
 
-/// Entries, which stand in so many files, in their order.
+/// The entries of a share, which stand in so many files, in their order.
 pub(crate) fn sort_share(
     alloc: Global,
-    entries: Entries,
+    collected: &Arc<Collected>,
+    share: Share,
     files: usize,
 ) -> Result<SortedShare, AllocError>
-    requires many { length entries ≤ 1_048_576 }
-    requires files { All (λ o. o.file < files) entries }
-    ensures { IfOk result (IsSortedOf entries) }
+    requires parts { length collected.now.value ≤ 4096 }
+    requires few { length (all_of collected.now.value) ≤ 1_048_576 }
+    requires files { All (λ o. o.file < files) (all_of collected.now.value) }
+    ensures { IfOk result (IsSortedOf
+        (share_of share.count share.position (all_of collected.now.value))) }
 {
-    let scopes = ScopeHashes::among(alloc, &entries)?;
-    let entries = SortedEntries::new(alloc, entries)?;
+    let keyed = KeyedEntries::of_share(alloc, collected, share)?;
+    let scopes = ScopeHashes::among(alloc, &keyed.names())?;
+    let entries = keyed.sorted(alloc)?;
     let twice = first_twice(&entries.names());
     let services = listed_services(alloc, &entries.names(), &scopes)?;
     let table = EntryTable::new(alloc, entries, scopes, files)?;

@@ -14,11 +14,11 @@ ghost use Rattle.proto_names.specs.ScopeHashes.{TellsScopes};
 ghost use Rattle.proto_names.specs.Starts.{AreStarts};
 
 use crate::halving::count_named;
+use crate::keyed_entries::KeyedEntries;
 use crate::names::Names;
 use crate::packages::{PackageFiles, Packages};
 use crate::scope::Scope;
 use crate::scope_hashes::ScopeHashes;
-use crate::sorted_entries::SortedEntries;
 use crate::starts::{Starts, starts_of};
 use std::alloc::{AllocError, Global};
 use std::marker::Model;
@@ -33,7 +33,7 @@ pub(crate) struct Named<'t> {
 /// Entries with what is found among them. Contracts see them as the occurrences that they stand for.
 #[derive(Drop)]
 pub(crate) struct EntryTable {
-    entries: SortedEntries,
+    entries: KeyedEntries,
     starts: Starts,
     scopes: ScopeHashes,
     packages: Packages,
@@ -61,7 +61,7 @@ impl EntryTable {
     /// The entries, which stand in so many files, with the hashes of the scopes among them, and with what else is found.
     pub(crate) fn new(
         alloc: Global,
-        entries: SortedEntries,
+        entries: KeyedEntries,
         scopes: ScopeHashes,
         files: usize,
     ) -> Result<EntryTable, AllocError>

@@ -13,7 +13,7 @@ use Rattle.proto_names.proofs.halving.count_before.Goals as goal
 
 pub returns-clause-point : goal.returns-clause-point
 returns-clause-point c =
-    let es = c.names.inside.entries.now in
+    let es = c.names.inside.collected.now in
     let keys = c.names.inside.keys.now in
     let os = found_by es keys in
     let n = c.partition_point.result in

@@ -1,5 +1,8 @@
-use Rattle.proto_names.proofs.Keying.{AreFirstKeys}
+use Rattle.std.proofs.Common.{take}
+use Rattle.proto_names.specs.Keys.{AreKeysOf}
+use Rattle.proto_names.specs.Shares.{all_of, share_of}
 use Rattle.proto_names.proofs.keys.keys_of.Given as goal
 
-abbrev pub invariant-loop-position : goal.invariant-loop-position
-invariant-loop-position l = AreFirstKeys l.entries l.keys.items l.position
+abbrev pub invariant-loop-part : goal.invariant-loop-part
+invariant-loop-part l =
+    AreKeysOf (share_of l.share.count l.share.position (all_of (take l.part l.collected))) l.collected l.keys.items

@@ -10,5 +10,5 @@ returns-clause-all c = IsPermutation-trans c.args.keys.now c.sort_unstable.new.s
 
 pub returns-clause-order : goal.returns-clause-order
 returns-clause-order c = on_ok_weaker c.sort_by.result
-    (λ sorted. sorted_by c.args.entries.now c.sort_by.new.self sorted (λ a r f called. search rules))
+    (λ sorted. sorted_by c.args.collected.now c.sort_by.new.self sorted (λ a r f called. search rules))
     c.sort_by.ensures.sorted

@@ -5,14 +5,14 @@ use Rattle.proto_names.specs.Shares.{all_of}
 use Rattle.proto_names.proofs.Collecting.{all_more, all_together, collected_next, too_many_here, too_many_together}
 use Rattle.proto_names.proofs.parts.within.Goals as goal
 
-pub returns-in_default : goal.returns-in_default
-returns-in_default c =
+pub returns-in_default-clause-all : goal.returns-in_default-clause-all
+returns-in_default-clause-all c =
     let (p, stands, many) = collected_next c.args.limit c.args.parts.now c.args.outs.items _ c.loop-out.all.items None
     c.requires.outs (rw (c.in-Some.ensures.steps.0, c.in_default.is) at c.loop-out.invariant.outs) in
     too_many_here c.args.parts.now _ p stands c.requires.placed c.args.limit many
 
-pub returns-then-len-limit : goal.returns-then-len-limit
-returns-then-len-limit c =
+pub returns-then-len-limit-clause-all : goal.returns-then-len-limit-clause-all
+returns-then-len-limit-clause-all c =
     let (p, stands, part) = collected_next c.args.limit c.args.parts.now c.args.outs.items _ c.loop-out.all.items
     (Some c.in-Some-out.entries) c.requires.outs
     (rw (c.in-Some.ensures.steps.0, c.in-Some-out.is) at c.loop-out.invariant.outs) in

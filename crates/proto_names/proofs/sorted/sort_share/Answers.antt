@@ -1,28 +1,43 @@
 use Rattle.std.proofs.lemmas.Grind.{common_steps}
-use Rattle.std.proofs.Common.{arith, ◌<◌}
+use Rattle.std.proofs.Common.{arith, ◌<◌, ℕ, List}
+use Rattle.std.specs.Prelude.{IsPermutation}
+use Rattle.bit_matrix.specs.Bits.{Bits}
+use Rattle.std.proofs.lemmas.List.Elements.{All-filter}
 use Rattle.std.proofs.lemmas.List.Sorted.{All-permutation, Contains-permutation, IsPermutation-sym, length_permutation}
 use Rattle.proto_names.specs.Occurrences.{Occurrence}
+use Rattle.proto_names.specs.ScopeHashes.{TellsScopes}
+use Rattle.proto_names.proofs.Shared.{share_few}
 use Rattle.proto_names.proofs.sorted.sort_share.Goals as goal
 
+pub among-requires : goal.among-requires
+among-requires c = grind (arith, common_steps, share_few)
+
+-- scopes are told of in any order
+told : (os moved : List Occurrence) (bits : Bits) (slots : ℕ) → IsPermutation os moved → TellsScopes os bits slots
+    → TellsScopes moved bits slots
+told os moved bits slots same tells o within is =
+    tells o (Contains-permutation moved os o (IsPermutation-sym os moved same) within) is
+
 pub listed_services-requires : goal.listed_services-requires
-listed_services-requires c = rw c.names-2.ensures (λ o within is. c.in_ok-scopes.ensures o
-    (Contains-permutation _ _ o (IsPermutation-sym _ _ c.in_ok-entries.ensures.all) within) is)
+listed_services-requires c =
+    rw c.names-3.ensures (told _ _ c.in_ok-scopes.scopes.bits _ c.in_ok-entries.ensures.all (rw c.names.ensures at c.in_ok-scopes.ensures))
 
-pub new-requires-2-clause-many : goal.new-requires-2-clause-many
-new-requires-2-clause-many c = grind (arith, common_steps, length_permutation)
+pub new-requires-clause-many : goal.new-requires-clause-many
+new-requires-clause-many c = grind (arith, common_steps, length_permutation, share_few)
 
-pub new-requires-2-clause-scopes : goal.new-requires-2-clause-scopes
-new-requires-2-clause-scopes c o within is = c.in_ok-scopes.ensures o
-    (Contains-permutation _ _ o (IsPermutation-sym _ _ c.in_ok-entries.ensures.all) within) is
+pub new-requires-clause-scopes : goal.new-requires-clause-scopes
+new-requires-clause-scopes c =
+    told _ _ c.in_ok-scopes.scopes.bits _ c.in_ok-entries.ensures.all (rw c.names.ensures at c.in_ok-scopes.ensures)
 
-pub new-requires-2-clause-files : goal.new-requires-2-clause-files
-new-requires-2-clause-files c = All-permutation (λ (o : Occurrence). o.file < c.args.files) c.args.entries
-    c.in_ok-entries.entries c.in_ok-entries.ensures.all c.requires.files
+pub new-requires-clause-files : goal.new-requires-clause-files
+new-requires-clause-files c = All-permutation (λ (o : Occurrence). o.file < c.args.files) c.in_ok-keyed.keyed
+    c.in_ok-entries.entries c.in_ok-entries.ensures.all
+    (rw c.in_ok-keyed.ensures (All-filter _ (λ (o : Occurrence). o.file < c.args.files) _ c.requires.files))
 
 pub returns : goal.returns
 returns c =
     record {
-      all = rw c.in_ok-table.ensures c.in_ok-entries.ensures.all;
-      services = rw (c.in_ok-table.ensures, ← c.names-2.ensures) c.in_ok-services.ensures;
-      twice = rw (c.in_ok-table.ensures, ← c.names.ensures) c.first_twice-twice.ensures;
+      all = rw c.in_ok-table.ensures (rw c.in_ok-keyed.ensures at c.in_ok-entries.ensures.all);
+      services = rw (c.in_ok-table.ensures, ← c.names-3.ensures) c.in_ok-services.ensures;
+      twice = rw (c.in_ok-table.ensures, ← c.names-2.ensures) c.first_twice-twice.ensures;
     }

@@ -7,7 +7,7 @@ use Rattle.proto_names.proofs.scope_hashes.ScopeHashes.among.Goals.{then-fits, e
 
 pub loop-position-preserved : goal.loop-position-preserved
 loop-position-preserved c =
-    let os = c.args.entries.now in
+    let os = c.args.names.now in
     let k = c.loop-position.position in
     let (row, room, told) = c.loop-position.invariant in
     let inside : k < length os = omega (arith, c.len-position-end.ensures, c.loop-position-test.true) in

@@ -1,0 +1,40 @@
+use Rattle.std.proofs.lemmas.Grind.{common_steps}
+use Rattle.std.proofs.Common.{◌≡◌, ◌∙◌, ◌<◌, [], ap, ap₂, append_assoc, append-nil, arith, length, sym}
+use Rattle.std.proofs.lemmas.List.{get_or_default}
+use Rattle.proto_names.specs.Hashes.{hash_of}
+use Rattle.proto_names.specs.Keys.{IsKeyAmong, at_key, part_at}
+use Rattle.proto_names.specs.Occurrences.{Occurrence}
+use Rattle.proto_names.specs.Runs.{at}
+use Rattle.proto_names.proofs.Keying.{keys_more}
+use Rattle.proto_names.proofs.Shared.{share_more}
+use Rattle.proto_names.proofs.keys.put_keys.Goals as goal
+use Rattle.proto_names.proofs.keys.put_keys.Goals.{then-has+in_ok-push, else-has}
+
+pub loop-index-preserved : goal.loop-index-preserved
+loop-index-preserved c =
+    let parts = c.args.collected.now in
+    let k = c.args.part in
+    let index = c.loop-index.index in
+    let here = part_at parts k in
+    let is : c.index-entries.result.now ≡ here =
+    rw (← c.collected.view_is) (c.index-entries.ensures
+    ∙ get_or_default c.collected.inside.parts.items k _ [] (rw (← c.collected.view_is) at c.requires.part)) in
+    let inside : index < length here =
+    omega (arith, ap length is, c.len-index-end.ensures, c.loop-index-test.true) in
+    let hash = rw is at c.hash-hash.ensures in
+    let more = share_more c.args.share.count c.args.share.position index here c.has.result inside
+    (rw hash at c.has.ensures) in
+    elim c.if-has.branch [
+      | then-has+in_ok-push w ↦
+          let key = w.key_of.result in
+          let put = w.key_of.ensures in
+          let found : at_key parts key ≡ at here index = ap₂ (λ k i. at (part_at parts k) i) put.part put.index in
+          let among : IsKeyAmong parts key = record {
+            part = rw put.part c.requires.part;
+            index = rw (put.part, put.index) inside;
+            hashed = put.hash ∙ hash ∙ ap (λ (o : Occurrence). hash_of o.name) (sym found);
+          } in
+          rw w.keys-is (keys_more parts c.loop-index.keys.items _ c.loop-index.invariant key _ _ among
+          w.in_ok-push.ensures.items (grind (arith, common_steps, append_assoc, more, found)))
+      | else-has w ↦ rw (w.keys-is, more, w.if-has.false, append-nil) c.loop-index.invariant
+    ]

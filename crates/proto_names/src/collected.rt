@@ -1,0 +1,77 @@
+//! The entries of an index, where they were collected: part by part, and none is moved.
+
+ghost use Rattle.std.specs.Prelude.{◌≡◌, ◌<◌, ◌∷◌, [], IfOk, length, slice_index_or, string_bytes};
+ghost use Rattle.proto_names.specs.Keys.{at_key, index_in, part_at, part_in};
+ghost use Rattle.proto_names.specs.Order.{location_of};
+
+use crate::entries::Entries;
+use crate::entry::{FIRST_LOCATION, Location};
+use crate::keys::{index_in, part_in};
+use proto_desc::name_kind::NameKind;
+use std::alloc::{AllocError, Global};
+use std::marker::Model;
+
+/// The entries of each part. A key tells the part, and the entry in it. Contracts see the parts as lists of occurrences.
+#[derive(Drop)]
+pub(crate) struct Collected {
+    pub(crate) parts: Vec<Entries>,
+}
+
+impl Model for Collected {
+    ghost use Rattle.std.specs.Prelude.{List};
+    ghost use Rattle.proto_names.specs.Occurrences.{Occurrence};
+
+    ghost Value = { List (List Occurrence) };
+
+    ghost view = { λ collected. collected.parts.items };
+}
+
+impl Collected {
+    /// The entries of one part, which has all.
+    pub(crate) fn in_one(alloc: Global, entries: Entries) -> Result<Collected, AllocError>
+        ensures { IfOk result (λ collected. collected ≡ entries ∷ []) }
+    {
+        let mut parts = Vec::with_capacity(alloc, 1)?;
+        parts.push(entries)?;
+        Ok(Collected { parts })
+    }
+
+    /// The bytes of the name that a key finds, none where it finds no entry.
+    pub(crate) fn name(&self, key: u64) -> &[u8]
+        ensures { result.now ≡ (at_key self.now key).name }
+    {
+        match self.parts.get(part_in(key)) {
+            Some(entries) => entries.name(index_in(key)),
+            None => &[],
+        }
+    }
+
+    /// The name that a key finds, as a text of its own.
+    pub(crate) fn to_text(&self, alloc: Global, key: u64) -> Result<String, AllocError>
+        requires part { part_in key < length self.now }
+        requires index { index_in key < length (part_at self.now (part_in key)) }
+        ensures { IfOk result (λ text. string_bytes text ≡ (at_key self.now key).name) }
+    {
+        self.parts[part_in(key)].to_text(alloc, index_in(key))
+    }
+
+    /// Where the name that a key finds stands; at the first byte of the first file where it finds no entry.
+    pub(crate) fn location(&self, key: u64) -> Location
+        ensures { result ≡ location_of (at_key self.now key) }
+    {
+        match self.parts.get(part_in(key)) {
+            Some(entries) => entries.location(index_in(key)),
+            None => FIRST_LOCATION,
+        }
+    }
+
+    /// What the name that a key finds is declared for; none where it is a package, or where the key finds no entry.
+    pub(crate) fn kind(&self, key: u64) -> Option<NameKind>
+        ensures { result ≡ (at_key self.now key).kind }
+    {
+        match self.parts.get(part_in(key)) {
+            Some(entries) => entries.kind(index_in(key)),
+            None => None,
+        }
+    }
+}
