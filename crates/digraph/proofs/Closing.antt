@@ -1,38 +1,81 @@
--- What the loops keep that gather lists.
-use Rattle.digraph.proofs.Gathering.{joined_moved}
-use Rattle.std.proofs.Common.{◌≡◌, ℕ, ◌+◌, ◌<◌, ◌≤◌, List, [], ◌∷◌, ◌++◌, length, get_or, refl, arith, inl, inr, ◌⊎◌, lit<, Bool, Contains, ◌↔◌}
+-- What the loops keep that search over edges, and those that gather lists.
+use Rattle.std.proofs.Common.{◌≡◌, ℕ, ◌+◌, ◌<◌, ◌≤◌, List, [], length, get_or, refl, arith, inl, inr, ◌⊎◌, Bool, Contains, ◌↔◌, ◌∷◌, ◌++◌, lit<}
+use Rattle.std.proofs.lemmas.Bool.{cases_lt}
+use Rattle.std.proofs.Math.ListN.{get_or-append}
+use Rattle.std.proofs.lemmas.List.Elements.{Contains-get_or}
+use Rattle.digraph.specs.Edges.{Graph, Edge, successors, IsFalling}
+use Rattle.digraph.specs.Leads.{Leads, here, through}
+use Rattle.digraph.specs.Marks.{AreMarked, IsFrontOf, NoneMarked, Among}
+use Rattle.digraph.proofs.Visiting.{IsDistinct_none, among_all, no_position, push_iff, rises_push, one_only}
+use Rattle.digraph.proofs.Ways.{leads_last, leads_trans, leads_le}
+use Rattle.digraph.proofs.Gathering.{joined_both}
 use Rattle.std.specs.List.Sorted.{IsStrictlyIncreasing}
 use Rattle.std.proofs.lemmas.Grind.{common_steps}
-use Rattle.digraph.specs.Edges.{Graph, Edge, IsFalling, successors}
-use Rattle.digraph.specs.Leads.{Leads, here, through}
 use Rattle.digraph.specs.Reaches.{IsReach, AreReaches, InLists, IsUnion, AreClosed}
-use Rattle.digraph.specs.Marks.{AreMarked, Among}
-use Rattle.digraph.proofs.Visiting.{push_iff}
-use Rattle.digraph.proofs.Rising.{rises_push, one_only}
-use Rattle.digraph.proofs.Ways.{leads_trans, leads_le}
 
--- c stands in the list of one of the first n nodes
-abbrev pub InFirst : List (List ℕ) → List ℕ → ℕ → ℕ → Type 0
-InFirst lists nodes n c = (b : ℕ) × Among nodes n b × Contains (get_or lists b []) c
+pub no_member : (xs : List ℕ) (c : ℕ) → xs ≡ [] → Contains xs c → ⊥
+no_member xs c e w = let here' = rw e at w in no_position here'.0 here'.1
+
+-- no node is marked, and none is in the list
+pub none_are : (marks : List Bool) (nodes : List ℕ) → NoneMarked marks → nodes ≡ [] → AreMarked marks nodes
+none_are marks nodes none e = grind (arith, IsDistinct_none, no_member)
+
+-- all that was found is led to, and what the first `next` of it go to was found
+pub record Searching (g : Graph) (n start : ℕ) (marks : List Bool) (found : List ℕ) (next : ℕ) : Type 0 where
+  pub room : length marks ≡ n
+  pub are : AreMarked marks found
+  pub first : Contains found start
+  pub sound : (c : ℕ) → Contains found c → Leads (Edge g) c start
+  pub done : (k b : ℕ) → k < next → Edge g (get_or found k 0) b → Contains found b
+
+pub searching_next : (g : Graph) (n start : ℕ) (marks new : List Bool) (found ys xs : List ℕ) (next : ℕ)
+    → next < length found → xs ≡ successors g (get_or found next 0) → length new ≡ n → AreMarked new ys
+    → IsFrontOf found ys → ((c : ℕ) → Contains ys c ↔ (Contains found c ⊎ Contains xs c))
+    → Searching g n start marks found next → Searching g n start new ys (next + 1)
+searching_next g n start marks new found ys xs next h e room are prefix added r =
+    let added' = rw e at added in
+    record {
+      room = room;
+      are = are;
+      first = (added' start).1 (inl r.first);
+      sound = λ c w. elim ((added' c).0 w) [
+        | inl old ↦ r.sound c old
+        | inr edge ↦ leads_last (Edge g) _ c start (r.sound _ (Contains-get_or found next 0 h)) edge
+      ];
+      done = λ k b below w. (
+          let edge = rw (prefix.1, get_or-append found prefix.0 0 k (omega arith)) at w in
+          (added' b).1 (elim (cases_lt k next) [
+            | inl old ↦ inl (r.done k b old edge)
+            | inr last ↦ (let is : k ≡ next = omega arith in inr (rw is at edge))
+          ]));
+    }
+
+pub closed : (g : Graph) (found : List ℕ) (next c : ℕ) → length found ≤ next
+    → ((k b : ℕ) → k < next → Edge g (get_or found k 0) b → Contains found b) → (a : ℕ)
+    → Leads (Edge g) c a → Contains found a → Contains found c
+closed g found next c h done _ here w = w
+closed g found next c h done _ (through a b edge more) w =
+    let at = (among_all found (length found) a refl).0 w in
+    closed g found next c h done b more (done at.0 b (omega arith) (rw at.2 edge))
 
 pub record Gathered (lists : List (List ℕ)) (nodes : List ℕ) (n : ℕ) (marks : List Bool)
     (marked : List ℕ) : Type 0 where
   pub room : length lists ≤ length marks
   pub inside : (k : ℕ) → k < length nodes → get_or nodes k 0 < length lists
   pub are : AreMarked marks marked
-  pub gathered : (c : ℕ) → Contains marked c ↔ InFirst lists nodes n c
+  pub gathered : (c : ℕ) → Contains marked c
+      ↔ ((b : ℕ) × Among nodes n b × Contains (get_or lists b []) c)
 
 -- ---- lists, one after the other
 
 pub reach_closed : (g : Graph) (lists : List (List ℕ)) (n : ℕ) → IsFalling g → AreReaches g lists n → AreClosed lists n
 reach_closed g lists n falling all = record {
   own = λ a h. ((all a h).members a).1 here;
-  within = λ a b h w. (let le = leads_le g b a falling (((all a h).members b).0 w) in omega (arith, le, h));
+  within = λ a b h w. omega (arith, leads_le g b a falling (((all a h).members b).0 w));
   closed = λ a b c h w v. (
       let ab = ((all a h).members b).0 w in
       let le = leads_le g b a falling ab in
-      let bc = ((all b (omega (arith, le, h))).members c).0 v in
-      ((all a h).members c).1 (leads_trans (Edge g) b c a ab bc));
+      ((all a h).members c).1 (leads_trans (Edge g) b c a ab (((all b (omega arith)).members c).0 v)));
 }
 
 union_from : (g : Graph) (lists : List (List ℕ)) (a c : ℕ) → IsFalling g → AreReaches g lists a → Leads (Edge g) c a
@@ -69,6 +112,6 @@ pub union_of_one : (lists : List (List ℕ)) (nodes : List ℕ) (b a : ℕ) (xs 
     → ((c : ℕ) → Contains (get_or lists b []) c → c < a) → IsUnion lists nodes a xs
 union_of_one lists nodes b a xs one is up below = rw (one, is) (record {
   rises = rises_push (get_or lists b []) a up below;
-  members = λ c. joined_moved (λ w. w, λ w. w) (push_iff (get_or lists b []) a c)
+  members = λ c. joined_both (push_iff (get_or lists b []) a c)
       (λ w. (b, (0, lit< tt, refl), w), λ (d, is, w). rw (one_only b d is) w) (λ e. e, λ e. e);
 })

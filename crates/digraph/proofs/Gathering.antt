@@ -5,6 +5,9 @@ use Rattle.std.proofs.Common.{◌≡◌, ◌⊎◌, ℕ, ◌+◌, ◌<◌, arith
 pub joined_none : {I M : Type 0} → (M → ⊥) → I ↔ (I ⊎ M)
 joined_none out = grind arith
 
+pub joined_by : {A B C : Type 0} → (A → B ⊎ C) → (B → A) → (C → A) → A ↔ (B ⊎ C)
+joined_by f g h = grind arith
+
 -- what a step meets is joined to what the loop has
 pub joined_step : {A B I M N P : Type 0} → A ↔ (B ⊎ P) → B ↔ (I ⊎ M) → N ↔ (M ⊎ P) → A ↔ (I ⊎ N)
 joined_step f g h = grind arith
@@ -17,14 +20,6 @@ joined_more f g h = grind arith
 pub joined_where : {A B M N O P Q : Type 0} → A ↔ (B ⊎ (O × Q)) → B ↔ (M × Q) → O ↔ P → N ↔ (M ⊎ P) → A ↔ (N × Q)
 joined_where f g e h = grind arith
 
--- the end of a loop that meets all
-pub joined_all : {A B C : Type 0} → A ↔ B → C ↔ B → A ↔ C
-joined_all f g = grind arith
-
--- what is the same as what is joined to what was found
-pub joined_moved : {F G I M N S : Type 0} → S ↔ F → F ↔ (G ⊎ M) → G ↔ I → M ↔ N → S ↔ (I ⊎ N)
-joined_moved s f g m = grind arith
-
 pub joined_all_where : {A B C Q : Type 0} → A ↔ (B × Q) → C ↔ B → A ↔ (C × Q)
 joined_all_where f g = grind arith
 
@@ -36,9 +31,6 @@ joined_fresh f g out h = grind arith
 
 pub joined_two : {A B C : Type 0} → A ↔ B → B ↔ C → A ↔ C
 joined_two f g = grind arith
-
-pub joined_through : {A B C D : Type 0} → A ↔ B → B ↔ C → C ↔ D → A ↔ D
-joined_through f g h = grind arith
 
 -- one more of what holds where S does
 pub joined_if : {A B P S : Type 0} → A ↔ (B ⊎ P) → S → A ↔ (B ⊎ (S × P))

@@ -1,10 +1,11 @@
 -- Rows of bits that are joined, and what they say of ways.
+use Rattle.std.proofs.lemmas.Grind.{common_steps}
 use Rattle.std.proofs.Common.{◌≡◌, ◌∙◌, refl, sym, subst, ℕ, ◌+◌, ◌<◌, ◌≤◌, ◌⊎◌, List, length, get_or, inl, inr, arith, Contains, ◌↔◌}
 use Rattle.std.proofs.lemmas.Bool.{cases_lt}
 use Rattle.std.proofs.lemmas.List.Elements.{Contains-get_or}
 use Rattle.bit_matrix.specs.Bits.{Bits, has}
 use Rattle.bit_matrix.specs.Changes.{Has, HasInserted, HasJoined, IsAsLarge, IsLonger, columns_of}
-use Rattle.digraph.proofs.Gathering.{joined_all, joined_both, joined_fresh, joined_two}
+use Rattle.digraph.proofs.Gathering.{joined_both, joined_fresh, joined_two}
 use Rattle.digraph.specs.Edges.{Graph, Edge, IsFalling, successors}
 use Rattle.digraph.specs.Leads.{Leads, here, through}
 use Rattle.digraph.specs.ReachRows.{HasRowPushed, HasRowsJoined, InRows, LeadsToLabel}
@@ -17,8 +18,7 @@ same_bit old new a k same = (λ t. sym same ∙ t, λ t. same ∙ t)
 
 same_rows : (old new : Bits) (others : List ℕ) (k : ℕ) → ((b : ℕ) → Contains others b → has new b k ≡ has old b k)
     → InRows new others k ↔ InRows old others k
-same_rows old new others k same =
-    (λ (b, w, v). (b, w, sym (same b w) ∙ v), λ (b, w, v). (b, w, same b w ∙ v))
+same_rows old new others k same = grind (arith, common_steps)
 
 -- ---- one row with what is set in others
 
@@ -33,15 +33,12 @@ module _ (old : Bits) (row : ℕ) (others : List ℕ) (n : ℕ) (now new : Bits)
     (hrow : row < old.rows)
     (below : (b : ℕ) → Contains others b → b < row) (is : Joining old row others n now)
     (joined : HasJoined now row (get_or others n 0) new) where
-  other_below : get_or others n 0 < row
-  other_below = below (get_or others n 0) (Contains-get_or others n 0 h)
-
   other_same : (k : ℕ) → k < columns_of old → has now (get_or others n 0) k ≡ has old (get_or others n 0) k
-  other_same k hk = grind (arith, other_below)
+  other_same k hk = let less = below _ (Contains-get_or others n 0 h) in grind arith
 
   more : (k : ℕ) → k < columns_of old
       → Has new row k ↔ (Has old row k ⊎ ((i : ℕ) × (i < n + 1) × Has old (get_or others i 0) k))
-  more k hk = (λ w. grind (arith, other_same), λ w. grind (arith, other_same))
+  more k hk = grind (arith, other_same)
 
   pub joining_more : Joining old row others (n + 1) new
   joining_more = grind (arith, more)
@@ -79,14 +76,14 @@ module _ (g : Graph) (labels : List ℕ) (n : ℕ) (old new : Bits) (falls : IsF
       inr (b, at, (is.members b k (falls n b at) (omega arith)).1 (c, way, label))
 
   own : (k : ℕ) → k < columns_of new → Has new n k ↔ LeadsToLabel g labels n k
-  own k hk = joined_all (rw is.rows at (pushed.bits k (omega arith))) (
-    λ (c, way, label). label_from k hk c label n refl way,
+  own k hk = joined_two (rw is.rows at (pushed.bits k (omega arith))) (
     λ w. elim w [
       | inl first ↦ (n, here, first)
       | inr (b, edge, v) ↦
           let (c, way, label) = (is.members b k (falls n b edge) (omega arith)).0 v in
           (c, through n b edge way, label)
     ],
+    λ (c, way, label). label_from k hk c label n refl way,
   )
 
   member : (a k : ℕ) → a < n + 1 → k < columns_of new → Has new a k ↔ LeadsToLabel g labels a k
@@ -113,10 +110,9 @@ module _ (g : Graph) (old : Bits) (n : ℕ) (now new : Bits) (falls : IsFalling 
     (is : Succeeding g old (n + 1) now)
     (joined : HasRowsJoined now n (successors g n) new) where
   first : (k : ℕ) → k < columns_of old → Has new n k ↔ (Has old n k ⊎ ((b : ℕ) × Edge g n b × Has old b k))
-  first k hk = joined_both (joined.bits k (omega arith))
-      (same_bit old now n k (is.before n k (omega arith) h hk))
+  first k hk = joined_both (joined.bits k (omega arith)) (same_bit old now n k (is.before n k (omega arith) h hk))
       (same_rows old now (successors g n) k (λ b edge. (let less = falls n b edge in
-      is.before b k (omega (arith, less)) (omega (arith, less, h)) hk)))
+      is.before b k (omega arith) (omega arith) hk)))
 
   rest : (a k : ℕ) → (a ≡ n → ⊥) → a < old.rows → k < columns_of old → has new a k ≡ has now a k
   rest a k other ha hk = grind arith

@@ -1,15 +1,9 @@
 pub mod Closing
 pub mod Gathering
-pub mod Levels
 pub mod Joining
-pub mod Marking
-pub mod Naming
+pub mod Levels
 pub mod Renumbering
-pub mod Rising
-pub mod Rounding
 pub mod Rows
-pub mod Searching
 pub mod Sharing
-pub mod Stuck
 pub mod Visiting
 pub mod Ways

@@ -1,11 +1,11 @@
 -- Laws of positions in an order.
 use Rattle.std.proofs.Common.{◌≡◌, ◌≢◌, ◌∙◌, sym, ℕ, zero, suc, ◌+◌, ◌<◌, List, length, map, get_or, ap, arith, inl, inr, get_or-set_same, get_or-set_other, Contains, ◌↔◌, set, length-set}
-use Rattle.std.proofs.lemmas.Bool.{cases_eq, cases_lt}
+use Rattle.std.proofs.lemmas.Bool.{cases_lt, cases_order}
 use Rattle.std.proofs.lemmas.List.{get_or-map, length-map}
 use Rattle.std.proofs.lemmas.List.Elements.{Contains-get_or}
 use Rattle.digraph.specs.Edges.{Graph, Edge, IsFalling, IsWithin, successors}
 use Rattle.digraph.specs.Leads.{Leads, here, through}
-use Rattle.digraph.specs.Ranks.{rank_in, IsBefore, IsRanked, IsRankOrder}
+use Rattle.digraph.specs.Ranks.{IsBefore, IsRanked, IsRankOrder}
 use Rattle.digraph.specs.Renumbered.{node_at, ArePositions, HasPosition, IsRenumbered}
 use Rattle.digraph.proofs.Rows.{edge_below}
 
@@ -41,8 +41,7 @@ pub record Placed (order : List ℕ) (n : ℕ) (positions : List ℕ) : Type 0 w
 
 pub inside_order : (ranks order : List ℕ) → IsRankOrder ranks order → (k : ℕ) → k < length order
     → node_at order k < length order
-inside_order ranks order o k h = let below = (o.whole (node_at order k)).0 (Contains-get_or order k 0 h) in
-    omega (arith, below, o.size)
+inside_order ranks order o k h = omega (arith, (o.whole (node_at order k)).0 (Contains-get_or order k 0 h), o.size)
 
 pub placed_more : (ranks order : List ℕ) (n : ℕ) (positions : List ℕ) → IsRankOrder ranks order → n < length order
     → Placed order n positions → Placed order (n + 1) (set positions (node_at order n) n)
@@ -51,10 +50,8 @@ placed_more ranks order n positions o h p = record {
   placed = λ k below. elim (cases_lt k n) [
     | inl less ↦ get_or-set_other positions (node_at order n) (node_at order k) n 0
         (before_differs ranks _ _ (before_far ranks order o k n less h)) ∙ p.placed k less
-    | inr over ↦
-        let at : k ≡ n = omega arith in
-        let inside = inside_order ranks order o n h in
-        rw at (get_or-set_same positions (node_at order n) n 0 (omega (arith, inside, p.size)))
+    | inr over ↦ (let at : k ≡ n = omega arith in
+        rw at (get_or-set_same positions (node_at order n) n 0 (omega (arith, inside_order ranks order o n h, p.size))))
   ];
 }
 
@@ -78,28 +75,20 @@ pub record Rowed (g : Graph) (order positions : List ℕ) (n : ℕ) (rows : Grap
 pub renumbered_falls : (g h : Graph) (ranks order : List ℕ) (rows : Graph) → IsRanked g ranks → IsRankOrder ranks order
     → ((a b : ℕ) → Edge h a b → Edge g a b) → IsRenumbered h order rows → IsFalling rows
 renumbered_falls g h ranks order rows ranked o sub r k j edge =
-    let hk : k < length order = (let below = edge_below rows k j edge in omega (arith, below, r.size)) in
+    let below = edge_below rows k j edge in
     let hj = r.within k j edge in
     let less = ranked.above (node_at order k) (node_at order j)
-    (sub (node_at order k) (node_at order j) ((r.edges k j hk hj).0 edge)) in
-    elim (cases_lt j k) [
-      | inl is ↦ is
-      | inr over ↦ elim (cases_eq k j) [
-        | inl same ↦ (let e = ap (λ i. rank_in ranks (node_at order i)) same in omega (arith, less, e))
-        | inr other ↦ elim (before_far ranks order o k j (omega (arith, over, other)) hj) [
-          | inl rises ↦ omega (arith, rises, less)
-          | inr level ↦ omega (arith, level.0, less)
-        ]
-      ]
-    ]
+    (sub (node_at order k) (node_at order j) ((r.edges k j (omega (arith, r.size)) hj).0 edge)) in
+    let far = before_far ranks order o k j in
+    grind (arith, cases_order k j)
 
 -- ways between positions are ways between nodes
 pub ways_to : (g : Graph) (order : List ℕ) (rows : Graph) → IsRenumbered g order rows → (j k : ℕ)
     → Leads (Edge rows) j k → Leads (Edge g) (node_at order j) (node_at order k)
 ways_to g order rows r j _ here = here
 ways_to g order rows r j _ (through k i edge more) =
-    let hk : k < length order = (let below = edge_below rows k i edge in omega (arith, below, r.size)) in
-    through (node_at order k) (node_at order i) ((r.edges k i hk (r.within k i edge)).0 edge)
+    through (node_at order k) (node_at order i)
+    ((r.edges k i (omega (arith, edge_below rows k i edge, r.size)) (r.within k i edge)).0 edge)
     (ways_to g order rows r j i more)
 
 pub ways_from : (g : Graph) (order positions : List ℕ) (rows : Graph) → ArePositions order positions
@@ -107,9 +96,8 @@ pub ways_from : (g : Graph) (order positions : List ℕ) (rows : Graph) → AreP
     → Leads (Edge g) c a → Leads (Edge rows) (get_or positions c 0) (get_or positions a 0)
 ways_from g order positions rows p len within r c _ h here = here
 ways_from g order positions rows p len within r c _ h (through a b edge more) =
-    let hb : b < length order = (let below = within a b edge in omega (arith, below, len)) in
-    let pa = p.node a h in
-    let pb = p.node b hb in
-    through (get_or positions a 0) (get_or positions b 0)
-    ((r.edges (get_or positions a 0) (get_or positions b 0) pa.0 pb.0).1 (rw (pa.1, pb.1) edge))
+    let hb : b < length order = omega (arith, within a b edge) in
+    let (pa, at_a) = p.node a h in
+    let (pb, at_b) = p.node b hb in
+    through _ _ ((r.edges _ _ pa pb).1 (rw (at_a, at_b) edge))
     (ways_from g order positions rows p len within r c b hb more)

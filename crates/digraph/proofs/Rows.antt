@@ -4,8 +4,7 @@ use Rattle.digraph.proofs.Gathering.{joined_first, joined_if, joined_none, joine
 use Rattle.std.proofs.lemmas.List.{get_or_push, map-set, map-append}
 use Rattle.std.proofs.Common.{length-append, get_or-set_other, ◌≡◌, sym, ℕ, ◌+◌, ◌<◌, ◌≤◌, List, [], ◌∷◌, ◌++◌, length, take, drop, get_or, arith, inl, inr, ◌⊎◌, Vec, Global, get_or-set_same, Contains, ◌↔◌}
 use Rattle.std.proofs.Math.ListN.{get_or-append, set, length-set}
-use Rattle.digraph.proofs.Marking.{among_more}
-use Rattle.digraph.proofs.Visiting.{push_iff}
+use Rattle.digraph.proofs.Visiting.{among_more, push_iff}
 use Rattle.std.proofs.lemmas.Grind.{common_steps}
 use Rattle.digraph.specs.Edges.{Graph, graph_of, successors, Edge}
 use Rattle.digraph.specs.Marks.{Among}
@@ -25,14 +24,13 @@ edge_below g a b edge = grind (arith, common_steps)
 pub edge_push : (g : Graph) (xs : List ℕ) (a b : ℕ)
     → Edge (g ++ xs ∷ []) a b ↔ (Edge g a b ⊎ ((a ≡ length g) × Contains xs b))
 edge_push g xs a b =
-    let old : length g ≤ a → Edge g a b → ⊥ =
-    λ over e. (let below = edge_below g a b e in omega (arith, below, over)) in
+    let old : length g ≤ a → Edge g a b → ⊥ = λ over e. omega (arith, edge_below g a b e) in
     elim (cases_lt a (length g)) [
       | inl inside ↦ rw (get_or-append g (xs ∷ []) [] a inside) (joined_none (λ w. omega (arith, w.0)))
       | inr over ↦ elim (cases_eq a (length g)) [
         | inl last ↦ rw (get_or_push g xs [] a (sym last)) (joined_first (old over) last)
         | inr other ↦ (
-          λ e. absurd (let below = edge_below (g ++ xs ∷ []) a b e in omega (arith, below, length-append g (xs ∷ []))),
+          λ e. absurd (omega (arith, edge_below (g ++ xs ∷ []) a b e, length-append g (xs ∷ []))),
           λ w. absurd (elim w [ inl e ↦ old over e | inr new ↦ other new.0 ]),
         )
       ]
@@ -71,7 +69,7 @@ pub row_pushed : (rows : List (Vec ℕ Global)) (s node : ℕ) (v w : Vec ℕ Gl
     → w.items ≡ v.items ++ node ∷ []
     → (b a : ℕ) → Edge (graph_of (set rows s w)) b a ↔ (Edge (graph_of rows) b a ⊎ ((b ≡ s) × (node ≡ a)))
 row_pushed rows s node v w e h items b a = rw (graph_set rows s w, items, row_items rows s v e h)
-    (edge_set (graph_of rows) s node b a (omega (arith, h, length_graph rows)))
+    (edge_set (graph_of rows) s node b a (omega (arith, length_graph rows)))
 
 -- what a loop keeps that pushes one node to the rows of others
 pub record Turning (nodes : List ℕ) (node : ℕ) (old : Graph) (n : ℕ) (rows : List (Vec ℕ Global)) : Type 0 where
@@ -82,13 +80,11 @@ pub turning_more : (nodes : List ℕ) (node : ℕ) (old : Graph) (n : ℕ) (rows
     → n < length nodes → v ≡ get_or rows (get_or nodes n 0) v
     → w.items ≡ (get_or rows (get_or nodes n 0) v).items ++ node ∷ [] → Turning nodes node old n rows
     → Turning nodes node old (n + 1) (set rows (get_or nodes n 0) w)
-turning_more nodes node old n rows v w h e items t =
-    let s = get_or nodes n 0 in
-    record {
-      room = λ k inside. (let room = t.room k inside in omega (arith, room, length-set rows s w));
-      edges = λ b a. joined_step (row_pushed rows s node v w e (t.room n h) (rw (sym e) at items) b a) (t.edges b a)
-          (λ w. grind (arith, among_more), λ w. grind (arith, among_more));
-    }
+turning_more nodes node old n rows v w h e items t = record {
+  room = λ k inside. rw length-set (t.room k inside);
+  edges = λ b a. joined_step (row_pushed rows _ node v w e (t.room n h) (rw (sym e) at items) b a) (t.edges b a)
+      (λ w. grind (arith, among_more), λ w. grind (arith, among_more));
+}
 
 -- what a loop keeps that turns the edges of one node after the other
 pub record Turned (g : Graph) (n : ℕ) (rows : List (Vec ℕ Global)) : Type 0 where

@@ -1,14 +1,17 @@
--- Ranges of a list that only grows.
-use Rattle.std.proofs.Common.{◌≡◌, ℕ, ◌+◌, ◌<◌, ◌≤◌, List, [], ◌∷◌, ◌++◌, length, drop, get_or, refl, arith, length-append, Result, OnErr}
-use Rattle.std.proofs.lemmas.List.{map-append, take_all}
+-- Ranges of a list that only grows, and names for what stands in them.
+use Rattle.std.proofs.Common.{◌≡◌, ℕ, ◌+◌, ◌<◌, ◌≤◌, List, [], ◌∷◌, ◌++◌, length, drop, get_or, refl, arith, length-append, Result, OnErr, ◌∙◌, sym, suc, map, Contains}
+use Rattle.std.proofs.lemmas.List.{length-map, map-append, take_all, get_or-map, drop-map, take-map}
 use Rattle.std.proofs.lemmas.Grind.{common_steps}
 use Rattle.digraph.specs.Marks.{IsFrontOf}
-use Rattle.digraph.specs.Ranges.{range_of, ranges_of, AreWithin, Holds}
-use Rattle.digraph.proofs.Rising.{all_push}
+use Rattle.digraph.specs.Ranges.{range_of, ranges_of, AreWithin, Holds, name_of}
+use Rattle.digraph.proofs.Visiting.{all_push, default_same}
+use Rattle.std.specs.List.{AllByRecursion}
+use Rattle.std.proofs.lemmas.List.Elements.{recursion_from_All}
+use Rattle.digraph.specs.Renumbered.{node_at}
 
 pub within_more : (n m : ℕ) (rs : List (ℕ × ℕ)) → n ≤ m → AreWithin n rs → AreWithin m rs
 within_more n m [] h w = tt
-within_more n m (r ∷ rs) h w = (omega (arith, w.0), within_more n m rs h w.1)
+within_more n m (r ∷ rs) h w = (omega arith, within_more n m rs h w.1)
 
 range_kept : (old more : List ℕ) (r : ℕ × ℕ) → r.0 + r.1 ≤ length old → range_of (old ++ more) r ≡ range_of old r
 range_kept old more r h = grind (arith, common_steps)
@@ -58,3 +61,28 @@ extended_length items r number h = grind (arith, common_steps)
 
 pub always_on_err : {A E : Type 0} (r : Result A E) (P : Type 0) → P → OnErr r P
 always_on_err r P p = grind arith
+
+range_mapped : (f : ℕ → ℕ) (items : List ℕ) (r : ℕ × ℕ) → range_of (map f items) r ≡ map f (range_of items r)
+range_mapped f items r = grind (arith, drop-map, take-map)
+
+map_same : (f g : ℕ → ℕ) (xs : List ℕ) → ((k : ℕ) → Contains xs k → f k ≡ g k) → map f xs ≡ map g xs
+map_same f g [] same = refl
+map_same f g (x ∷ xs) same =
+    rw (same x (0, omega arith, refl), map_same f g xs (λ k w. same k (suc w.0, omega arith, w.2))) refl
+
+ranges_mapped : (f g : ℕ → ℕ) (items : List ℕ) (rs : List (ℕ × ℕ))
+    → AllByRecursion (λ (r : ℕ × ℕ). (k : ℕ) → Contains (range_of items r) k → f k ≡ g k) rs
+    → ranges_of (map f items) rs ≡ map (λ (list : List ℕ). map g list) (ranges_of items rs)
+ranges_mapped f g items [] same = refl
+ranges_mapped f g items (r ∷ rs) same =
+    rw (range_mapped f items r ∙ map_same f g (range_of items r) same.0, ranges_mapped f g items rs same.1) refl
+
+-- the names of what lists share are the names of each list
+pub view_named : (names items : List ℕ) (rs : List (ℕ × ℕ)) (lists : List (List ℕ)) → ranges_of items rs ≡ lists
+    → ((a k : ℕ) → a < length lists → Contains (get_or lists a []) k → k < length names)
+    → ranges_of (map (name_of names) items) rs ≡ map (λ (list : List ℕ). map (node_at names) list) lists
+view_named names items rs lists e below =
+    let inside = rw (sym e) at below in
+    rw (sym e) (ranges_mapped (name_of names) (node_at names) items rs (recursion_from_All _ rs (λ a d h k w.
+    default_same names k k 0 (inside a k (omega (arith, h, length-map rs (range_of items)))
+    (rw (get_or-map (range_of items) rs a d [] h) w)))))

@@ -1,6 +1,4 @@
-pub mod Lists
 pub mod Firsts
-pub mod Replies
+pub mod Lists
 pub mod Marks
-pub mod Others
-pub mod AllReplies
+pub mod Replies

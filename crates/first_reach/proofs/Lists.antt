@@ -1,9 +1,8 @@
 -- Members of lists, tested by a Bool.
-use Rattle.std.proofs.Common.{arith, ◌≡◌, ℕ, ◌&&◌, Bool, true, false, Option, Some, None, List, [], ◌∷◌, filter, refl, ◌∙◌, eq-eqb, eqb-true, eqb, slice_get, All, subst}
+use Rattle.std.proofs.Common.{arith, ◌≡◌, ℕ, ◌&&◌, Bool, true, false, Option, Some, List, [], ◌∷◌, filter, refl, eq-eqb, eqb-true, eqb, slice_get, All, subst, Contains, ◌↔◌, IsTrue, ◌==◌}
 use Rattle.std.specs.Set.{is_member}
 use Rattle.std.proofs.lemmas.Bool.{or_right}
 use Rattle.std.proofs.lemmas.Option.{slice_get_within, get_or_from_slice_get}
-use Rattle.std.specs.Prelude.{Contains, ◌↔◌, IsTrue, ◌==◌}
 use Rattle.share_work.proofs.Sums.{none_in, front, behind, front_or_behind}
 use Rattle.first_reach.specs.Carried.{root_first, reached}
 
@@ -27,10 +26,9 @@ filter_filter p q (x ∷ xs) = grind (arith, filter_filter p q xs)
 
 -- a test that no member passes keeps none
 pub filter_none : (p : ℕ → Bool) (xs : List ℕ) → ((x : ℕ) → has x xs ≡ true → p x ≡ false) → filter p xs ≡ []
-filter_none p xs h = filter_on p (λ _. false) xs h ∙ none xs where
-  none : (ys : List ℕ) → filter (λ _. false) ys ≡ []
-  none [] = refl
-  none (y ∷ ys) = none ys
+filter_none p [] h = refl
+filter_none p (x ∷ xs) h =
+    grind (arith, eq-eqb, filter_none p xs (λ y e. h y (or_right (eqb y x) (has y xs) e)))
 
 pub has_filter : (p : ℕ → Bool) (g : ℕ) (xs : List ℕ) → has g (filter p xs) ≡ (has g xs && p g)
 has_filter p g [] = refl
@@ -40,8 +38,7 @@ has_filter p g (x ∷ xs) = grind (arith, eqb-true, has_filter p g xs)
 pub has_root_first : (reach : ℕ → List ℕ) (root : Option ℕ) → ((r : ℕ) → root ≡ Some r → has r (reach r) ≡ true)
     → (g : ℕ)
     → has g (root_first reach root) ≡ has g (reached reach root)
-has_root_first reach None own g = refl
-has_root_first reach (Some r) own g = grind (arith, eqb-true, has_filter)
+has_root_first reach root own g = grind (arith, eqb-true, has_filter)
 
 pub all_get : {X : Type 0} (P : X → Type 0) (xs : List X) (j : ℕ) (x : X) → All P xs → slice_get xs j ≡ Some x → P x
 all_get P xs j x h e = subst P (get_or_from_slice_get xs j x x e) (h j x (slice_get_within xs j x e))

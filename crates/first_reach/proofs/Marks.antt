@@ -1,9 +1,7 @@
 -- What workers' marks post.
 use Rattle.std.proofs.lemmas.List.{length-take}
 use Rattle.share_work.proofs.PieceRows.{take_get}
-use Rattle.std.proofs.Common.{◌≡◌, ℕ, zero, suc, ◌+◌, ◌<◌, ◌⊎◌, inl, inr, ◌↔◌, Option, Some, None, List, [], ◌∷◌, ◌++◌, take, length, reverse, sym, ap, subst, ◌∙◌, arith, slice_get, All, drop, map, sum, sum_by, append-nil}
-use Rattle.std.specs.Prelude.{Contains}
-use Rattle.std.specs.List.{flat_map}
+use Rattle.std.proofs.Common.{◌≡◌, ℕ, suc, ◌+◌, ◌<◌, ◌⊎◌, inl, inr, ◌↔◌, Option, Some, None, List, [], ◌∷◌, ◌++◌, take, length, reverse, sym, ap, subst, ◌∙◌, arith, slice_get, All, drop, map, sum, sum_by, append-nil, Contains, flat_map}
 use Rattle.std.proofs.lemmas.Bool.{cases_lt}
 use Rattle.std.proofs.lemmas.Option.{slice_get-get_or, slice_get_within}
 use Rattle.std.proofs.lemmas.List.Elements.{Contains-append_left, Contains-append_right, Contains-append_cases}
@@ -22,15 +20,12 @@ use Rattle.first_reach.proofs.Lists.{all_get, contains_at}
 
 take_under : {X : Type 0} (n : ℕ) (xs : List X) (o : ℕ) (t : X) → slice_get (take n xs) o ≡ Some t
     → (o < n) × (slice_get xs o ≡ Some t)
-take_under n xs o t e =
-    let inside = slice_get_within (take n xs) o t e in (omega (arith, length-take n xs), take_get n xs o t e)
+take_under n xs o t e = grind (arith, length-take, slice_get_within, take_get)
 
 take_there : {X : Type 0} (n : ℕ) (xs : List X) (o : ℕ) (t : X) → o < n → slice_get xs o ≡ Some t
     → slice_get (take n xs) o ≡ Some t
-take_there zero xs o t h e = absurd (omega arith)
-take_there (suc n) [] o t h e = e
-take_there (suc n) (x ∷ xs) zero t h e = e
 take_there (suc n) (x ∷ xs) (suc o) t h e = take_there n xs o t (omega arith) e
+take_there n xs o t h e = grind arith
 
 -- what one more item adds
 adds_more : {T : Type 0} (adds : ℕ → T → ℕ → ℕ → Type 0) (first k : ℕ) (items : List T) (t : T)
@@ -41,8 +36,7 @@ adds_more {T = T} adds first k items t e x n = (
       let here = take_under (k + 1) items a.0 a.1 a.2 in
       elim (cases_lt a.0 k) [
         | inl lt ↦ inl (a.0, a.1, take_there k items a.0 a.1 lt here.1, a.3)
-        | inr ge ↦
-            let at : a.0 ≡ k = omega arith in let same : a.1 ≡ t = grind arith in inr (grind arith)
+        | inr ge ↦ inr (grind arith)
       ],
   λ h. elim h [
     | inl a ↦ let r = take_under k items a.0 a.1 a.2 in
@@ -96,14 +90,12 @@ all_posted reach roots old new marks together none final g n =
           let by = of_flat of_seat (reverse new) (post.0, n) post.1 in
           let seat = Contains-permutation (reverse new) new by.0
           (IsPermutation-sym new (reverse new) (IsPermutation-reverse new)) by.1 in
-          let at : slice_get new seat.0 ≡ Some by.0 = slice_get-get_or new seat.0 by.0 seat.1
-          ∙ ap (λ (s : MarkSeatValue). Some s) seat.2 in
+          let at : slice_get new seat.0 ≡ Some by.0 = cc (slice_get-get_or new seat.0 by.0 seat.1, seat.2) in
           elim ((together g n).0 (seat.0, by.0, at, marked_from reach by.0.view.marks post.0 g n by.2 post.2)) [
             | inl was ↦
                 absurd (none_in (g, n)
                 (subst Q (all_get (λ (s : MarkSeatValue). s.view.marks ≡ []) old was.0 was.1 none was.2) was.3))
-            | inr a ↦
-                let same : a.0 ≡ n = let e = a.3.0 in omega arith in (a.1, rw same at a.2, a.3.1)
+            | inr a ↦ let same : a.0 ≡ n = omega (arith, a.3.0) in (a.1, rw same at a.2, a.3.1)
           ],
       λ r.
           let got = (together g n).1 (inr (n, r.0, r.1, (omega arith, r.2))) in

@@ -1,9 +1,8 @@
 -- The least of a union, and of the first n elements of a list.
-use Rattle.std.proofs.Common.{◌≡◌, ◌∙◌, sym, ℕ, ◌+◌, ◌<◌, ◌≤◌, List, length, get_or, ap, refl, subst, arith, inl, inr, ◌⊎◌}
+use Rattle.std.proofs.Common.{◌≡◌, ◌∙◌, sym, ℕ, ◌+◌, ◌<◌, ◌≤◌, List, length, get_or, ap, refl, arith, inl, inr, ◌⊎◌, ⊎_elim, cond}
 use Rattle.std.specs.Prelude.{Option, Some, None, Bool, true, false, ◌↔◌}
-use Rattle.std.proofs.lemmas.Bool.{true≢false, false≢true, cases_lt, cond-true}
+use Rattle.std.proofs.lemmas.Bool.{cases_lt}
 use Rattle.std.proofs.lemmas.List.{get_or_default}
-use Rattle.std.proofs.Common.{cond, Equal, Less, Greater}
 use Rattle.std.specs.declared.cmp.Ordering.{Ordering}
 use Rattle.std.specs.Ordering.{nat_cmp, is_eq}
 use Rattle.std.specs.Cmp.Lexicographic.{slice_cmp}
@@ -24,20 +23,17 @@ least_some S a among least = record { is = record { among = among; least = least
 
 -- a set without a least has nothing
 pub none_of : (S : Spot → Type 0) (a : Option Spot) → IsLeast S a → a ≡ None → (x : Spot) → S x → ⊥
-none_of S a p e = (let q : IsLeast S None = subst (IsLeast S) e p in q.is)
+none_of S a p e = (rw e at p).is
 
 -- what is the least of a set
 pub least_of : (S : Spot → Type 0) (a : Option Spot) (c : Spot) → IsLeast S a → a ≡ Some c → IsLeastBy AtMost S c
-least_of S a c p e = (let q : IsLeast S (Some c) = subst (IsLeast S) e p in q.is)
+least_of S a c p e = (rw e at p).is
 
 pub at_most_itself : (a : Spot) → AtMost a a
 at_most_itself a = inr (refl, omega arith)
 
 at_most_on : (a b c : Spot) → AtMost a b → AtMost b c → AtMost a c
-at_most_on a b c (inl h) (inl k) = inl (omega (arith, h, k))
-at_most_on a b c (inl h) (inr k) = inl (omega (arith, h, k.0))
-at_most_on a b c (inr h) (inl k) = inl (omega (arith, h.0, k))
-at_most_on a b c (inr h) (inr k) = inr (h.0 ∙ k.0, omega (arith, h.1, k.1))
+at_most_on a b c h k = grind arith
 
 -- what comes no later than the least comes no later than each
 least_after : (S : Spot → Type 0) (a : Option Spot) (c x : Spot) → IsLeast S a → ((y : Spot) → a ≡ Some y → AtMost c y)
@@ -53,16 +49,14 @@ least_no S (Some y) x p h s = h y refl
 pub least_or : (S T U : Spot → Type 0) (a b r : Option Spot) → ((x : Spot) → U x → S x ⊎ T x) → ((x : Spot) → S x → U x)
     → ((x : Spot) → T x → U x)
     → IsLeast S a → IsLeast T b → IsLesser a b r → IsLeast U r
-least_or S T U a b None split left right p q w = least_none U (λ x u. elim (split x u) [
-  | inl s ↦ least_no S a x p (λ y e. w.least.is y (inl e)) s
-  | inr t ↦ least_no T b x q (λ y e. w.least.is y (inr e)) t
-])
+least_or S T U a b None split left right p q w = record {
+  is = λ x u. ⊎_elim (least_no S a x p (λ y e. w.least.is y (inl e))) (least_no T b x q (λ y e. w.least.is y (inr e)))
+      (split x u);
+}
 least_or S T U a b (Some c) split left right p q w = least_some U c
     (elim w.least.is.among [ inl e ↦ left c (least_of S a c p e).among | inr e ↦ right c (least_of T b c q e).among ])
-    (λ x u. elim (split x u) [
-      | inl s ↦ least_after S a c x p (λ y e. w.least.is.least y (inl e)) s
-      | inr t ↦ least_after T b c x q (λ y e. w.least.is.least y (inr e)) t
-    ])
+    (λ x u. ⊎_elim (least_after S a c x p (λ y e. w.least.is.least y (inl e)))
+    (least_after T b c x q (λ y e. w.least.is.least y (inr e))) (split x u))
 
 -- two sets with the same elements
 pub least_same : (S U : Spot → Type 0) (a : Option Spot) → ((x : Spot) → U x → S x) → ((x : Spot) → S x → U x)
@@ -72,37 +66,27 @@ least_same S U (Some a) back on p = least_some U a (on a p.is.among) (λ x u. p.
 
 -- the least of one fault
 pub least_one : (s : Spot) → IsLeast (λ x. x ≡ s) (Some s)
-least_one s = least_some (λ x. x ≡ s) s refl (λ x e. subst (AtMost s) (sym e) (at_most_itself s))
+least_one s = grind (arith, at_most_itself)
 
 -- what the first n elements break
 abbrev pub EachTo : {X : Type 0} → List X → ℕ → (X → Spot → Type 0) → Spot → Type 0
 EachTo {X} xs n S x = (i : ℕ) × (a : X) × (i < n) × StandsAt xs i a × S a x
 
-pub each_none : {X : Type 0} (xs : List X) (S : X → Spot → Type 0) → IsLeast (EachTo xs 0 S) None
-each_none xs S = least_none (EachTo xs 0 S) (λ x w. omega (arith, w.2))
-
 -- at one place one element stands
 pub one_at : {X : Type 0} (xs : List X) (i j : ℕ) (a b : X) → i ≡ j → StandsAt xs i a → StandsAt xs j b → a ≡ b
 one_at xs i j a b e s t = sym s.1 ∙ ap (λ k. get_or xs k a) e ∙ get_or_default xs j a b t.0 ∙ t.1
 
-each_split : {X : Type 0} (xs : List X) (S : X → Spot → Type 0) (n : ℕ) (a : X) → StandsAt xs n a → (x : Spot)
-    → EachTo xs (n + 1) S x → EachTo xs n S x ⊎ S a x
-each_split xs S n a here x (i, b, below, there, s) = elim (cases_lt i n) [
-  | inl old ↦ inl (i, b, old, there, s)
-  | inr last ↦ inr (subst (λ y. S y x) (one_at xs i n b a (omega arith) there here) s)
-]
+module _ {X : Type 0} (xs : List X) (S : X → Spot → Type 0) (n : ℕ) where
+  each_split : (a : X) → StandsAt xs n a → (x : Spot) → EachTo xs (n + 1) S x → EachTo xs n S x ⊎ S a x
+  each_split a here x w = grind (arith, cases_lt, one_at)
 
-pub each_more : {X : Type 0} (xs : List X) (S : X → Spot → Type 0) (n : ℕ) (a : X) (p q r : Option Spot)
-    → StandsAt xs n a → IsLeast (EachTo xs n S) p
-    → IsLeast (S a) q → IsLesser p q r → IsLeast (EachTo xs (n + 1) S) r
-each_more xs S n a p q r here h k w =
-    least_or (EachTo xs n S) (S a) (EachTo xs (n + 1) S) p q r (each_split xs S n a here)
-    (λ x v. (v.0, v.1, omega (arith, v.2), v.3, v.4)) (λ x s. (n, a, omega arith, here, s)) h k w
+  pub each_more : (a : X) (p q r : Option Spot) → StandsAt xs n a → IsLeast (EachTo xs n S) p → IsLeast (S a) q
+      → IsLesser p q r → IsLeast (EachTo xs (n + 1) S) r
+  each_more a p q r here h k w = least_or _ _ _ p q r (each_split a here)
+      (λ x v. (v.0, v.1, omega (arith, v.2), v.3, v.4)) (λ x s. (n, a, omega arith, here, s)) h k w
 
-pub each_all : {X : Type 0} (xs : List X) (S : X → Spot → Type 0) (n : ℕ) (r : Option Spot) → length xs ≤ n
-    → IsLeast (EachTo xs n S) r → IsLeast (Each xs S) r
-each_all xs S n r end h = least_same (EachTo xs n S) (Each xs S) r (λ x v. (v.0, v.1, omega (arith, v.2.0), v.2, v.3))
-    (λ x v. (v.0, v.1, v.3, v.4)) h
+  pub each_all : (r : Option Spot) → length xs ≤ n → IsLeast (EachTo xs n S) r → IsLeast (Each xs S) r
+  each_all r end h = grind (arith, least_same)
 
 -- clashes of the first n elements
 abbrev pub LaterTo : {X : Type 0} → List X → ℕ → (X → X → Type 0) → (X → Spot) → Spot → Type 0
@@ -113,156 +97,91 @@ LaterTo {X} xs n R at x = (i j : ℕ) × (a b : X) × (i < j) × (j < n) × Stan
 abbrev pub HasEarlier : {X : Type 0} → List X → ℕ → (X → X → Type 0) → X → Type 0
 HasEarlier {X} xs n R b = (i : ℕ) × (a : X) × (i < n) × StandsAt xs i a × R a b
 
-pub later_none : {X : Type 0} (xs : List X) (R : X → X → Type 0) (at : X → Spot) → IsLeast (LaterTo xs 0 R at) None
-later_none xs R at = least_none (LaterTo xs 0 R at) (λ x w. omega (arith, w.5))
+module _ {X : Type 0} (xs : List X) (R : X → X → Type 0) (at : X → Spot) (n : ℕ) where
+  later_split : (c : X) → StandsAt xs n c → (x : Spot) → LaterTo xs (n + 1) R at x
+      → LaterTo xs n R at x ⊎ (HasEarlier xs n R c × (x ≡ at c))
+  later_split c here x (i, j, a, b, before, below, there, then, r, e) = elim (cases_lt j n) [
+    | inl old ↦ inl (i, j, a, b, before, old, there, then, r, e)
+    | inr last ↦ let same = one_at xs j n b c (omega arith) then here in
+        inr ((i, a, omega arith, there, rw same at r), e ∙ ap at same)
+  ]
 
-later_split : {X : Type 0} (xs : List X) (R : X → X → Type 0) (at : X → Spot) (n : ℕ) (c : X) → StandsAt xs n c
-    → (x : Spot) → LaterTo xs (n + 1) R at x
-    → LaterTo xs n R at x ⊎ (HasEarlier xs n R c × (x ≡ at c))
-later_split xs R at n c here x (i, j, a, b, before, below, there, then, r, e) = elim (cases_lt j n) [
-  | inl old ↦ inl (i, j, a, b, before, old, there, then, r, e)
-  | inr last ↦ (let same : b ≡ c = one_at xs j n b c (omega arith) then here in
-      inr ((i, a, omega arith, there, subst (R a) same r), e ∙ ap at same))
-]
+  later_old : (x : Spot) → LaterTo xs n R at x → LaterTo xs (n + 1) R at x
+  later_old x w = grind arith
 
-later_old : {X : Type 0} (xs : List X) (R : X → X → Type 0) (at : X → Spot) (n : ℕ) (x : Spot) → LaterTo xs n R at x
-    → LaterTo xs (n + 1) R at x
-later_old xs R at n x (i, j, a, b, before, below, there, then, r, e) =
-    (i, j, a, b, before, omega arith, there, then, r, e)
+  pub later_clash : (c : X) (p r : Option Spot) → StandsAt xs n c → HasEarlier xs n R c → IsLeast (LaterTo xs n R at) p
+      → IsLesser p (Some (at c)) r → IsLeast (LaterTo xs (n + 1) R at) r
+  later_clash c p r here early h w = least_or _ (λ x. x ≡ at c) _ p (Some (at c)) r
+      (λ x v. grind (arith, later_split c here x v)) later_old
+      (λ x e. (early.0, n, early.1, c, early.2, omega arith, early.3, here, early.4, e)) h (least_one (at c)) w
 
-pub later_clash : {X : Type 0} (xs : List X) (R : X → X → Type 0) (at : X → Spot) (n : ℕ) (c : X) (p r : Option Spot)
-    → StandsAt xs n c → HasEarlier xs n R c
-    → IsLeast (LaterTo xs n R at) p → IsLesser p (Some (at c)) r → IsLeast (LaterTo xs (n + 1) R at) r
-later_clash xs R at n c p r here early h w =
-    least_or (LaterTo xs n R at) (λ x. x ≡ at c) (LaterTo xs (n + 1) R at) p (Some (at c)) r
-    (λ x v. elim (later_split xs R at n c here x v) [ inl old ↦ inl old | inr new ↦ inr new.1 ])
-    (later_old xs R at n)
-    (λ x e. (early.0, n, early.1, c, early.2, omega arith, early.3, here, early.4, e))
-    h (least_one (at c)) w
+  pub later_skip : (c : X) (p : Option Spot) → StandsAt xs n c → (HasEarlier xs n R c → ⊥)
+      → IsLeast (LaterTo xs n R at) p → IsLeast (LaterTo xs (n + 1) R at) p
+  later_skip c p here none h = least_same _ _ p (λ x v. grind (arith, later_split c here x v)) later_old h
 
-pub later_skip : {X : Type 0} (xs : List X) (R : X → X → Type 0) (at : X → Spot) (n : ℕ) (c : X) (p : Option Spot)
-    → StandsAt xs n c → (HasEarlier xs n R c → ⊥)
-    → IsLeast (LaterTo xs n R at) p → IsLeast (LaterTo xs (n + 1) R at) p
-later_skip xs R at n c p here none h = least_same (LaterTo xs n R at) (LaterTo xs (n + 1) R at) p
-    (λ x v. elim (later_split xs R at n c here x v) [ inl old ↦ old | inr new ↦ absurd (none new.0) ])
-    (later_old xs R at n) h
-
-pub later_all : {X : Type 0} (xs : List X) (R : X → X → Type 0) (at : X → Spot) (n : ℕ) (r : Option Spot)
-    → length xs ≤ n → IsLeast (LaterTo xs n R at) r
-    → IsLeast (Later xs R at) r
-later_all xs R at n r end h = least_same (LaterTo xs n R at) (Later xs R at) r
-    (λ x v. (v.0, v.1, v.2, v.3, v.4, omega (arith, v.6.0), v.5, v.6, v.7, v.8))
-    (λ x v. (v.0, v.1, v.2, v.3, v.4, v.6, v.7, v.8, v.9)) h
+  pub later_all : (r : Option Spot) → length xs ≤ n → IsLeast (LaterTo xs n R at) r → IsLeast (Later xs R at) r
+  later_all r end h = least_same _ _ r (λ x v. grind arith) (λ x v. grind arith) h
 
 -- what holds of the first n elements, or of B
 abbrev pub WithTo : {X : Type 0} → (Spot → Type 0) → List X → ℕ → (X → Spot → Type 0) → Spot → Type 0
 WithTo {X} B xs n S x = B x ⊎ EachTo xs n S x
 
-with_split : {X : Type 0} (B : Spot → Type 0) (xs : List X) (S : X → Spot → Type 0) (n : ℕ) (a : X) → StandsAt xs n a
-    → (x : Spot) → WithTo B xs (n + 1) S x
-    → WithTo B xs n S x ⊎ S a x
-with_split B xs S n a here x (inl b) = inl (inl b)
-with_split B xs S n a here x (inr w) =
-    elim (each_split xs S n a here x w) [ inl old ↦ inl (inr old) | inr new ↦ inr new ]
-
-with_old : {X : Type 0} (B : Spot → Type 0) (xs : List X) (S : X → Spot → Type 0) (n : ℕ) (x : Spot) → WithTo B xs n S x
-    → WithTo B xs (n + 1) S x
-with_old B xs S n x (inl b) = inl b
-with_old B xs S n x (inr v) = inr (v.0, v.1, omega (arith, v.2), v.3, v.4)
-
 pub with_more : {X : Type 0} (B : Spot → Type 0) (xs : List X) (S : X → Spot → Type 0) (n : ℕ) (a : X)
-    (p q r : Option Spot) → StandsAt xs n a
-    → IsLeast (WithTo B xs n S) p → IsLeast (S a) q → IsLesser p q r → IsLeast (WithTo B xs (n + 1) S) r
-with_more B xs S n a p q r here h k w =
-    least_or (WithTo B xs n S) (S a) (WithTo B xs (n + 1) S) p q r (with_split B xs S n a here) (with_old B xs S n)
-    (λ x s. inr (n, a, omega arith, here, s)) h k w
+    (p q r : Option Spot) → StandsAt xs n a → IsLeast (WithTo B xs n S) p → IsLeast (S a) q → IsLesser p q r
+    → IsLeast (WithTo B xs (n + 1) S) r
+with_more B xs S n a p q r here h k w = least_or _ _ _ p q r (λ x v. grind (arith, each_split xs S n a here x))
+    (λ x v. grind arith) (λ x s. inr (n, a, omega arith, here, s)) h k w
 
 -- keys that compare equal are those with one value
 abbrev pub Exact : {K T : Type 0} → (K → K → Ordering) → (K → T) → Type 0
 Exact {K} cmp show = (k q : K) → (is_eq (cmp k q) ≡ true) ↔ (show k ≡ show q)
 
-is_eq_true : (o : Ordering) → is_eq o ≡ true → o ≡ Equal
-is_eq_true Less h = absurd (false≢true h)
-is_eq_true Equal h = refl
-is_eq_true Greater h = absurd (false≢true h)
-
 pub exact_number : Exact nat_cmp (λ n. n)
-exact_number k q =
-    (λ h. exact_unsigned k q (is_eq_true (nat_cmp k q) h), λ e. rw e (ap is_eq (tied_itself nat_cmp_total q)))
+exact_number k q = grind (arith, exact_unsigned, nat_cmp_total, tied_itself)
 
 abbrev pub text_cmp : Bor (List ℕ) → Bor (List ℕ) → Ordering
 text_cmp x y = slice_cmp nat_cmp x.now y.now
 
 pub exact_text : Exact text_cmp (λ k. k.now)
-exact_text k q = (
-  λ h. exact_bytes k.now q.now (is_eq_true (text_cmp k q) h),
-  λ e. rw e (ap is_eq (tied_itself nat_list_cmp_total q.now)),
-)
-
--- a table holds the keys of the first n elements
-abbrev pub Seen : {X K T : Type 0} → (K → K → Ordering) → (K → T) → (X → T) → List X → BTreeSet K → ℕ → Type 0
-Seen {X} {K} cmp show key xs s n = (q : K)
-    → (contains cmp s q ≡ true) ↔ ((i : ℕ) × (a : X) × (i < n) × StandsAt xs i a × (key a ≡ show q))
-
--- what a pass with a table keeps
-pub record Passed {X K T : Type 0} (cmp : K → K → Ordering) (show : K → T) (key : X → T) (at : X → Spot) (xs : List X)
-    (s : BTreeSet K) (n : ℕ)
-    (first : Option Spot) : Type 0 where
-  pub least : IsLeast (LaterTo xs n (λ a b. key a ≡ key b) at) first
-  pub seen : Seen cmp show key xs s n
+exact_text k q = grind (arith, exact_bytes, nat_list_cmp_total, tied_itself)
 
 pub cond_or : (b o : Bool) → cond b true o ≡ true → (b ≡ true) ⊎ (o ≡ true)
-cond_or true o h = inl refl
-cond_or false o h = inr h
+cond_or b o h = grind arith
 
 pub cond_right : (b o : Bool) → o ≡ true → cond b true o ≡ true
-cond_right true o h = refl
-cond_right false o h = h
+cond_right b o h = grind arith
 
-pub seen_none : {X K T : Type 0} (cmp : K → K → Ordering) (show : K → T) (key : X → T) (xs : List X) (s : BTreeSet K)
-    → ((q : K) → contains cmp s q ≡ false)
-    → Seen cmp show key xs s 0
-seen_none cmp show key xs s h q = (λ w. absurd (true≢false (sym w ∙ h q)), λ w. absurd (omega (arith, w.2)))
+module _ {X K T : Type 0} (cmp : K → K → Ordering) (show : K → T) (key : X → T) where
+  -- a table holds the keys of the first n elements
+  abbrev pub Seen : List X → BTreeSet K → ℕ → Type 0
+  Seen xs s n = (q : K)
+      → (contains cmp s q ≡ true) ↔ ((i : ℕ) × (a : X) × (i < n) × StandsAt xs i a × (key a ≡ show q))
 
-seen_more : {X K T : Type 0} (cmp : K → K → Ordering) (show : K → T) (key : X → T) (xs : List X) (s t : BTreeSet K)
-    (n : ℕ) (c : X) (k : K) → Exact cmp show
-    → StandsAt xs n c → show k ≡ key c → Updates cmp s t k true → Seen cmp show key xs s n
-    → Seen cmp show key xs t (n + 1)
-seen_more cmp show key xs s t n c k exact here e new seen q = (
-  λ h. elim (cond_or (is_eq (cmp k q)) (contains cmp s q) (sym (new.0 q) ∙ h)) [
-    | inl same ↦ (n, c, omega arith, here, sym e ∙ (exact k q).0 same)
-    | inr old ↦ (let w = (seen q).0 old in (w.0, w.1, omega (arith, w.2), w.3, w.4))
-  ],
-  λ w. new.0 q ∙ elim (cases_lt w.0 n) [
-    | inl old ↦ cond_right (is_eq (cmp k q)) (contains cmp s q) ((seen q).1 (w.0, w.1, old, w.3, w.4))
-    | inr last ↦ cond-true (is_eq (cmp k q)) true _
-        ((exact k q).1 (e ∙ ap key (one_at xs n w.0 c w.1 (omega (arith, w.2, last)) here w.3) ∙ w.4))
-  ],
-)
+  -- what a pass with a table keeps
+  pub record Passed (at : X → Spot) (xs : List X) (s : BTreeSet K) (n : ℕ) (first : Option Spot) : Type 0 where
+    pub least : IsLeast (LaterTo xs n (λ a b. key a ≡ key b) at) first
+    pub seen : Seen xs s n
 
-pub passed_clash : {X K T : Type 0} (cmp : K → K → Ordering) (show : K → T) (key : X → T) (at : X → Spot) (xs : List X)
-    (s t : BTreeSet K) (n : ℕ) (c : X)
-    (k : K) (p r : Option Spot) → Exact cmp show → StandsAt xs n c → show k ≡ key c → Updates cmp s t k true
-    → contains cmp s k ≡ true
-    → Passed cmp show key at xs s n p → IsLesser p (Some (at c)) r → Passed cmp show key at xs t (n + 1) r
-passed_clash cmp show key at xs s t n c k p r exact here e new old h w =
-    let early = (h.seen k).0 old in
-    record {
-      least = later_clash xs (λ a b. key a ≡ key b) at n c p r here
-          (early.0, early.1, early.2, early.3, early.4 ∙ e) h.least w;
-      seen = seen_more cmp show key xs s t n c k exact here e new h.seen;
+  seen_more : (xs : List X) (s t : BTreeSet K) (n : ℕ) (c : X) (k : K) → Exact cmp show → StandsAt xs n c
+      → show k ≡ key c → Updates cmp s t k true → Seen xs s n → Seen xs t (n + 1)
+  seen_more xs s t n c k exact here e new seen q = (
+    λ h. grind (arith, cond_or (is_eq (cmp k q)) (contains cmp s q), new.0 q, exact k q, seen q),
+    λ w. grind (arith, cases_lt w.0 n, cond_right (is_eq (cmp k q)), new.0 q, exact k q, seen q, one_at xs n w.0 c w.1),
+  )
+
+  module _ (at : X → Spot) (xs : List X) (s t : BTreeSet K) (n : ℕ) (c : X) (k : K) where
+    pub passed_clash : (p r : Option Spot) → Exact cmp show → StandsAt xs n c → show k ≡ key c → Updates cmp s t k true
+        → contains cmp s k ≡ true → Passed at xs s n p → IsLesser p (Some (at c)) r → Passed at xs t (n + 1) r
+    passed_clash p r exact here e new old h w = record {
+      least = later_clash xs (λ a b. key a ≡ key b) at n c p r here (grind (arith, (h.seen k).0 old)) h.least w;
+      seen = seen_more xs s t n c k exact here e new h.seen;
     }
 
-pub passed_skip : {X K T : Type 0} (cmp : K → K → Ordering) (show : K → T) (key : X → T) (at : X → Spot) (xs : List X)
-    (s t : BTreeSet K) (n : ℕ) (c : X)
-    (k : K) (p : Option Spot) → Exact cmp show → StandsAt xs n c → show k ≡ key c → Updates cmp s t k true
-    → contains cmp s k ≡ false
-    → Passed cmp show key at xs s n p → Passed cmp show key at xs t (n + 1) p
-passed_skip cmp show key at xs s t n c k p exact here e new fresh h =
-    record {
-      least = later_skip xs (λ a b. key a ≡ key b) at n c p here
-          (λ w. true≢false (sym ((h.seen k).1 (w.0, w.1, w.2, w.3, w.4 ∙ sym e)) ∙ fresh)) h.least;
-      seen = seen_more cmp show key xs s t n c k exact here e new h.seen;
+    pub passed_skip : (p : Option Spot) → Exact cmp show → StandsAt xs n c → show k ≡ key c → Updates cmp s t k true
+        → contains cmp s k ≡ false → Passed at xs s n p → Passed at xs t (n + 1) p
+    passed_skip p exact here e new fresh h = record {
+      least = later_skip xs (λ a b. key a ≡ key b) at n c p here (λ w. grind (arith, h.seen k)) h.least;
+      seen = seen_more xs s t n c k exact here e new h.seen;
     }
 
 -- of two sets
@@ -272,22 +191,19 @@ least_union {S} {T} {a} {b} {r} p q w = least_or S T (S ∪ T) a b r (λ x v. v)
 
 -- what a loop over plain structs reads at n
 pub item_at : {X : Type 0} (xs : List X) (n : ℕ) (d : X) → n < length xs → StandsAt xs n (get_or xs n d)
-item_at xs n d h = (h, get_or_default xs n (get_or xs n d) d h)
+item_at xs n d h = grind (arith, get_or_default)
 
 pub least_hit : (P : Type 0) (s : Spot) → P → IsLeast (Where P s) (Some s)
-least_hit P s p = least_some (Where P s) s (p, refl) (λ x w. subst (AtMost s) (sym w.1) (at_most_itself s))
+least_hit P s p = grind (arith, at_most_itself)
 
 pub least_miss : (P : Type 0) (s : Spot) → (P → ⊥) → IsLeast (Where P s) None
 least_miss P s h = least_none (Where P s) (λ x w. h w.0)
 
 -- a spot that is known
 pub least_known : (o : Option Spot) → IsLeast (λ x. o ≡ Some x) o
-least_known None = least_none (λ x. None ≡ Some x) (λ x e. cc)
-least_known (Some s) =
-    least_some (λ x. Some s ≡ Some x) s refl (λ x e. let same : s ≡ x = cc in subst (AtMost s) same (at_most_itself s))
+least_known o = grind (arith, at_most_itself)
 
 pub lesser_none : (p : Option Spot) → IsLesser p None p
 lesser_none p = record {
-  least = least_same (λ x. p ≡ Some x) (λ x. (p ≡ Some x) ⊎ (None ≡ Some x)) p
-      (λ x w. elim w [ inl e ↦ e | inr e ↦ absurd (cc) ]) (λ x e. inl e) (least_known p);
+  least = least_same _ _ p (λ x w. grind arith) (λ x e. inl e) (least_known p);
 }

@@ -1,6 +1,6 @@
 -- Of two spots neither of which comes later, both are one: a set of spots has one least.
-use Rattle.std.proofs.Common.{◌≡◌, ◌∙◌, ℕ, ap, arith, inl, inr}
-use Rattle.std.specs.Ordering.{nat_cmp, is_eq}
+use Rattle.std.proofs.Common.{◌≡◌, ◌∙◌, ℕ, ap, arith}
+use Rattle.std.specs.Ordering.{is_eq}
 use Rattle.std.proofs.lemmas.Cmp.{nat_cmp_total, tied_itself}
 use denote.Enum.Bare.{same_true}
 use Rattle.proto_base.specs.Kind.{number_of}
@@ -12,14 +12,11 @@ use Rattle.proto_base.specs.declared.place.Place.{Place}
 
 pub same_kind : (a b : Kind) → number_of a ≡ number_of b → a ≡ b
 same_kind a b e = same_true the_type tt a b
-    (one_number a b ∙ ap (λ n. is_eq (nat_cmp n (number_of b))) e ∙ ap is_eq (tied_itself nat_cmp_total (number_of b)))
+    (one_number a b ∙ rw e (ap is_eq (tied_itself nat_cmp_total (number_of b))))
 
 pub same_place : (p q : Place) → p.offset ≡ q.offset → p ≡ q
 same_place p q e = let place : ℕ → Place = λ n. record { offset = n } in ap place e
 
 pub one_spot : (p q : Place) (k l : Kind) → AtMost (spot p k) (spot q l) → AtMost (spot q l) (spot p k)
     → (p ≡ q) × (k ≡ l)
-one_spot p q k l (inl before) (inl after) = absurd (omega (arith, before, after))
-one_spot p q k l (inl before) (inr after) = absurd (omega (arith, before, after.0))
-one_spot p q k l (inr before) (inl after) = absurd (omega (arith, before.0, after))
-one_spot p q k l (inr before) (inr after) = (same_place p q before.0, same_kind k l (omega (arith, before.1, after.1)))
+one_spot p q k l before after = grind (arith, same_place, same_kind)

@@ -1,5 +1,5 @@
 -- No place of a descriptor is the start of its text: the keyword of the syntax statement stands there, or behind it.
-use Rattle.std.proofs.Common.{◌≡◌, ◌∙◌, sym, ℕ, ◌+◌, ◌<◌, List, [], ◌∷◌, subst, arith}
+use Rattle.std.proofs.Common.{◌≡◌, ◌∙◌, sym, ℕ, ◌+◌, ◌<◌, List, [], ◌∷◌, arith}
 use Rattle.proto_base.specs.declared.limits.Limits.{Limits}
 use Rattle.proto_desc.specs.Places.{places_of}
 use Rattle.proto_desc.specs.declared.file.FileDesc.{FileDesc}
@@ -10,7 +10,7 @@ use Rattle.proto_tokens.specs.Spelling.{Piece, IsCutIntoPieces, mark_len, tokens
 use Rattle.proto_tokens.specs.Token.{Spelled}
 use Rattle.proto_file.specs.Local.{Describes}
 use Rattle.proto_file.proofs.LocalPlaces.{pieces_in}
-use Rattle.proto_file.proofs.PlacesWithin.{AreIn, BeginWithin, begun, lowered_within, rest}
+use Rattle.proto_file.proofs.PlacesWithin.{AreIn, BeginWithin, begun, lowered_within, split}
 
 abbrev pub IsAfter : ℕ → Type 0
 IsAfter place = 0 < place
@@ -32,11 +32,7 @@ pub places_after : (limits : Limits) (name text : List ℕ) (desc : FileDesc) �
 places_after limits name text desc (file, (ts, is, tree), unbroken, same) =
     let spelled : tokens_from (mark_len text) is.spelled_so.0 ≡ flatten (file_tree file) =
     is.spelled_so.2 ∙ sym tree.tokens in
-    let after : BeginWithin IsAfter (rest_of (flatten (file_tree file))) =
-    subst (λ (us : List Spelled). BeginWithin IsAfter (rest_of us)) spelled
-    (rest_after text (mark_len text) is.spelled_so.0 _ is.spelled_so.1) in
-    let statements : BeginWithin IsAfter (flatten (row statement_tree file.statements)) =
-    rest (λ (t : Spelled). IsAfter t.start) (rest_of (flatten (syntax_tree file.syntax)))
-    (flatten (row statement_tree file.statements)) after in
-    subst (λ (d : FileDesc). AreIn IsAfter (places_of d)) (sym same)
-    (lowered_within IsAfter name file (begun IsAfter (row statement_tree file.statements) statements))
+    let after = rw spelled at (rest_after text (mark_len text) is.spelled_so.0 _ is.spelled_so.1) in
+    let (syntax, statements) = split (λ (t : Spelled). IsAfter t.start)
+    (rest_of (flatten (syntax_tree file.syntax))) (flatten (row statement_tree file.statements)) after in
+    rw same (lowered_within IsAfter name file (begun IsAfter (row statement_tree file.statements) statements))

@@ -1,8 +1,6 @@
 pub mod PlacesWithin
 pub mod Spots
-pub mod Within
 pub mod FileWithin
 pub mod LocalPlaces
 pub mod AfterFirst
 pub mod OneLocal
-pub mod Judging

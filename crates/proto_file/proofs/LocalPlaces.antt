@@ -67,18 +67,8 @@ token_fault_within bytes s place kind (inl long) = grind arith
 token_fault_within bytes s place kind (inr (inl bad)) = grind (arith, utf8_valid_len_le s)
 token_fault_within bytes s place kind (inr (inr (short, utf8, bad))) =
     let (ps, to, at, cut, fault, is) = bad in
-    omega (
-      arith,
-      is,
-      cut_within s (mark_len s) ps to (mark_within s) cut,
-      piece_fault_within (drop to s) at kind fault,
-      length-drop to s,
-    )
-
--- that of a text that is too long stands at its start
-token_fault_short : (bytes : ℕ) (s : List ℕ) (place : ℕ) (kind : Kind) → IsFault bytes s place kind → place ≤ length s
-    → place ≤ bytes
-token_fault_short bytes s place kind fault within = grind arith
+    let inside = cut_within s (mark_len s) ps to (mark_within s) cut in
+    omega (arith, is, inside, piece_fault_within (drop to s) at kind fault, length-drop to s)
 
 -- ---- places of one source
 
@@ -87,34 +77,27 @@ pub record IsInside (limits : Limits) (text : List ℕ) (place : Place) : Type 0
   pub within : place.offset ≤ length text
   pub short : place.offset ≤ limit_of limits limit.FileBytes
 
-inside_file : (limits : Limits) (text : List ℕ) (file : FileTree) (place : Place) → IsFile limits text file
-    → place.offset ≤ length text
-    → IsInside limits text place
-inside_file limits text file place (ts, is, tree) within =
-    record { within = within; short = omega (arith, within, is.short) }
-
 pub fault_inside : (limits : Limits) (name text : List ℕ) (f : FileFault) → IsLocalFault limits name text f
     → IsInside limits text f.spot.place
 fault_inside limits name text f (of_tokens at_step fault) =
     let within : f.spot.place.offset ≤ length text = token_fault_within _ text _ f.spot.kind fault in
-    record { within = within; short = token_fault_short _ text _ f.spot.kind fault within }
+    record { within = within; short = grind arith }
 fault_inside limits name text f (of_grammar at_step (ts, k, is, fault, is_kind, at)) =
-    let within : f.spot.place.offset ≤ length text =
-    subst (λ p. p ≤ length text) (sym at) (token_begins (length text) ts k (tokens_begin _ text ts is)) in
-    record { within = within; short = omega (arith, within, is.short) }
+    let within = token_begins (length text) ts k (tokens_begin _ text ts is) in
+    record { within = omega (arith, within, at); short = omega (arith, within, at, is.short) }
 fault_inside limits name text f (of_checks at_step (file, is, least)) =
-    inside_file limits text file f.spot.place is
-    (breaks_within (length text) limits name file f.spot (tree_begins limits text file is) least.is.among)
+    let within : f.spot.place.offset ≤ length text =
+    breaks_within (length text) limits name file f.spot (tree_begins limits text file is) least.is.among in
+    record { within = within; short = omega (arith, within, is.1.short) }
 
 -- all places of a descriptor are those of its text
 pub places_within : (limits : Limits) (name text : List ℕ) (desc : FileDesc) → Describes limits name text desc
     → AllWithin (length text) (places_of desc)
 places_within limits name text desc (file, is, unbroken, same) =
-    subst (λ d. AllWithin (length text) (places_of d)) (sym same)
-    (lowered_within (upto (length text)) name file (tree_begins limits text file is).1)
+    rw same (lowered_within (upto (length text)) name file (tree_begins limits text file is).1)
 
 pub place_inside : (limits : Limits) (name text : List ℕ) (desc : FileDesc) (place : Place)
     → Describes limits name text desc → place.offset ≤ length text
     → IsInside limits text place
-place_inside limits name text desc place (file, is, unbroken, same) within =
-    inside_file limits text file place is within
+place_inside limits name text desc place (file, (ts, is, tree), unbroken, same) within =
+    record { within = within; short = omega (arith, within, is.short) }

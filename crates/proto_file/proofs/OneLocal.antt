@@ -1,14 +1,10 @@
 -- A source by itself is one thing: what it describes, or its one fault.
-use Rattle.std.proofs.Common.{◌≡◌, ◌∙◌, ℕ, List, Some, ap, sym, subst}
-use Rattle.proto_base.specs.Limits.{limit_of}
+use Rattle.std.proofs.Common.{◌≡◌, ◌∙◌, ℕ, List, ap, sym}
 use Rattle.proto_base.specs.declared.file_fault.FileFault.{FileFault}
 use Rattle.proto_base.specs.declared.kind.Kind.{Kind}
-use Rattle.proto_base.specs.declared.limits.Limit.TheVariants as limit
 use Rattle.proto_base.specs.declared.limits.Limits.{Limits}
-use Rattle.proto_base.specs.declared.place.Place.{Place}
 use Rattle.proto_base.specs.declared.spot.Spot.{Spot}
 use Rattle.proto_tokens.proofs.Unique.{tokens_one, tokens_no_fault, file_fault_one}
-use Rattle.proto_syntax.specs.Fault.{IsTreeOf, IsFaultAt, IsKindOf}
 use Rattle.proto_syntax.specs.Trees.{file_tree}
 use Rattle.proto_tree.specs.declared.file.FileTree.{FileTree}
 use Rattle.proto_syntax.proofs.Faults.{only_tree}
@@ -17,38 +13,30 @@ use Rattle.proto_syntax.proofs.Unique.{one_kind}
 use Rattle.proto_syntax.proofs.SameFiles.{same_file}
 use Rattle.proto_lower.specs.Files.{lowered}
 use Rattle.proto_desc.specs.declared.file.FileDesc.{FileDesc}
-use Rattle.proto_checks.specs.Checks.{FileBreaks}
 use Rattle.proto_base.specs.FileFaults.{at_step}
-use Rattle.proto_base.specs.Least.{IsLeast, spot}
+use Rattle.proto_base.specs.Least.{spot}
 use Rattle.proto_base.proofs.Spots.{one_spot, same_place}
 use Rattle.proto_file.specs.Local.{Describes, IsBrokenAt, IsFile, IsGrammarFault, IsLocalFault, of_tokens, of_grammar, of_checks}
 
 one_file : (limits : Limits) (text : List ℕ) (f g : FileTree) → IsFile limits text f → IsFile limits text g → f ≡ g
 one_file limits text f g (ts, is, tree) (us, is', tree') =
-    let same : us ≡ ts = tokens_one _ text us ts is' is in
-    same_file f g
-    (only_tree _ ts (file_tree f) (file_tree g) tree
-    (subst (λ vs. IsTreeOf (limit_of limits limit.Depth) vs (file_tree g)) same tree'))
+    let other = rw (tokens_one _ text us ts is' is) at tree' in
+    same_file f g (only_tree _ ts (file_tree f) (file_tree g) tree other)
 
 -- ---- a file has no fault of the grammar
 
 no_grammar_fault : (limits : Limits) (text : List ℕ) (f : FileTree) (place : ℕ) (kind : Kind) → IsFile limits text f
     → IsGrammarFault limits text place kind → ⊥
 no_grammar_fault limits text f place kind (ts, is, tree) (us, k, is', fault, is_kind, at) =
-    fault.no_file (file_tree f) (subst (λ vs. IsTreeOf (limit_of limits limit.Depth) vs (file_tree f))
-    (tokens_one _ text ts us is is') tree)
+    fault.no_file (file_tree f) (rw (tokens_one _ text ts us is is') at tree)
 
 one_grammar_fault : (limits : Limits) (text : List ℕ) (p q : ℕ) (a b : Kind) → IsGrammarFault limits text p a
     → IsGrammarFault limits text q b
     → (p ≡ q) × (a ≡ b)
 one_grammar_fault limits text p q a b (ts, j, is, fault, is_kind, at) (us, k, is', fault', is_kind', at') =
     let same : us ≡ ts = tokens_one _ text us ts is' is in
-    let token : k ≡ j = one_fault _ ts k j
-    (subst (λ vs. IsFaultAt (limit_of limits limit.Depth) vs k) same fault') fault in
-    let kind' : IsKindOf ts j b = subst (λ i. IsKindOf ts i b) token (subst (λ vs. IsKindOf vs k b) same is_kind') in (
-      cc,
-      one_kind ts j a b is_kind kind',
-    )
+    let token : k ≡ j = one_fault _ ts k j (rw same at fault') fault in
+    (cc, one_kind ts j a b is_kind (rw (same, token) at is_kind'))
 
 -- ---- broken rules
 
@@ -60,11 +48,10 @@ same_spot x y place kind =
 one_broken : (limits : Limits) (name text : List ℕ) (x y : Spot) → IsBrokenAt limits name text x
     → IsBrokenAt limits name text y → x ≡ y
 one_broken limits name text x y (f, is, least) (g, is', least') =
-    let other : IsLeast (FileBreaks limits f (lowered name f)) (Some y) =
-    subst (λ h. IsLeast (FileBreaks limits h (lowered name h)) (Some y)) (one_file limits text g f is' is) least' in
+    let other = rw (one_file limits text g f is' is) at least' in
     let one = one_spot x.place y.place x.kind y.kind (least.is.least y other.is.among)
     (other.is.least x least.is.among) in
-    same_spot x y (ap (λ (p : Place). p.offset) one.0) one.1
+    same_spot x y (cc one.0) one.1
 
 -- ---- one source
 
@@ -80,8 +67,8 @@ no_local limits name text desc x (f, is, unbroken, made) (of_tokens s fault) =
     tokens_no_fault _ text is.0 _ _ is.1 fault
 no_local limits name text desc x (f, is, unbroken, made) (of_grammar s fault) =
     no_grammar_fault limits text f _ _ is fault
-no_local limits name text desc x (f, is, unbroken, made) (of_checks s (g, is', least)) = unbroken x.spot
-    (subst (λ h. FileBreaks limits h (lowered name h) x.spot) (one_file limits text g f is' is) least.is.among)
+no_local limits name text desc x (f, is, unbroken, made) (of_checks s (g, is', least)) =
+    unbroken x.spot (rw (one_file limits text g f is' is) at least.is.among)
 
 -- faults of one step, place and kind are one
 same_fault : (x y : FileFault) → x.step ≡ y.step → x.spot ≡ y.spot → x ≡ y

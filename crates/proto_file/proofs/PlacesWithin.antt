@@ -1,13 +1,12 @@
 -- The places of a descriptor are those of tokens: they lie within a text in which the tokens of the tree begin.
-use Rattle.std.proofs.Common.{◌≡◌, sym, subst, arith, ℕ, ◌≤◌, Bool, false, cond, List, [], ◌∷◌, ◌++◌, map, ◌+◌}
-use Rattle.std.specs.Prelude.{flat_map, Option, None, Some, slice_get}
+use Rattle.std.proofs.Common.{◌≡◌, sym, subst, arith, ℕ, ◌≤◌, Bool, false, cond, List, [], ◌∷◌, ◌++◌, map, ◌+◌, flat_map, Option, None, Some, slice_get}
 use Rattle.std.specs.List.{AllByRecursion}
 use Rattle.std.proofs.lemmas.List.Folds.{flat_map-map}
 use Rattle.std.specs.Option.{option_to_list, option_map}
 use Rattle.proto_tokens.specs.Token.{Spelled}
 use Rattle.proto_base.specs.declared.place.Place.{Place}
 use Rattle.proto_syntax.specs.Grammar.{Tree, Pair, Left, Right, flatten, Empty, Leaf}
-use Rattle.proto_syntax.specs.Trees.{row, next_tree, optional, declarator_tree, setting_tree, separated_tree, options_tree, type_tree, field_statement_tree, oneof_item_tree, map_tree, message_item_tree, enum_item_tree, enum_tree, message_tree, rpc_type_tree, rpc_tree, service_item_tree, service_tree, statement_tree, member_tree, package_tree}
+use Rattle.proto_syntax.specs.Trees.{row, next_tree, optional, declarator_tree, setting_tree, separated_tree, options_tree, type_tree, field_statement_tree, oneof_item_tree, message_item_tree, enum_item_tree, enum_tree, message_tree, rpc_tree, service_item_tree, service_tree, statement_tree, member_tree, package_tree}
 use Rattle.proto_tree.specs.declared.field.Declarator.{Declarator}
 use Rattle.proto_tree.specs.declared.field.FieldType.{FieldType}
 use Rattle.proto_tree.specs.declared.field.Label.{Label}
@@ -17,14 +16,15 @@ use Rattle.proto_tree.specs.declared.option.Setting.{Setting}
 use Rattle.proto_desc.specs.declared.options.OptionDesc.{OptionDesc}
 use Rattle.proto_desc.specs.declared.rules.Element.{Element}
 use Rattle.proto_desc.specs.declared.rules.ValueKind.{ValueKind}
-use Rattle.proto_lower.specs.Fields.{kind_of, described, label_of, is_optional, inner, member_at, fields_from, reference_of, real_count}
+use Rattle.proto_lower.specs.Fields.{kind_of, described, label_of, is_optional, inner, member_at, fields_from, real_count}
 use Rattle.proto_options.specs.Options.{bracketed, first_setting}
 use Rattle.proto_tree.specs.Lists.{next_item, separated}
 use Rattle.proto_lower.specs.Options.{option_by, option_under, options_of}
-use Rattle.proto_desc.specs.Places.{kind_places, option_place, field_places, reference_places, oneof_place, value_place, enum_places, places_step, message_places, method_places, service_places, package_places, import_place, places_of}
+use Rattle.proto_desc.specs.Places.{kind_places, option_place, field_places, oneof_place, value_place, enum_places, places_step, message_places, method_places, service_places, package_places, import_place, places_of}
 use Rattle.proto_desc.specs.Rules.{Rule, rules_of}
 use Rattle.proto_syntax.proofs.Items.{item_field, item_map, item_oneof, item_enum, item_message}
 use Rattle.proto_desc.specs.declared.field.FieldDesc.{FieldDesc}
+use Rattle.proto_desc.specs.declared.file.FileDesc.{FileDesc}
 use Rattle.proto_desc.specs.declared.field.FieldKind.{FieldKind}
 use Rattle.proto_desc.specs.declared.field.FieldKind.TheVariants.{Named}
 use Rattle.proto_desc.specs.declared.field.FieldLabel.{FieldLabel}
@@ -37,13 +37,9 @@ use Rattle.proto_tree.specs.declared.message.Message.{Message, roll-Message, ind
 use Rattle.proto_tree.specs.declared.message.MessageItem.{MessageItem, MessageItem-F, roll-MessageItem, map-MessageItem}
 use Rattle.proto_tree.specs.declared.oneof.OneofField.{OneofField}
 use Rattle.proto_tree.specs.declared.service.Rpc.{Rpc}
-use Rattle.proto_tree.specs.declared.service.RpcType.{RpcType}
 use Rattle.proto_tree.specs.declared.service.Service.{Service}
 use Rattle.proto_desc.specs.declared.enumeration.EnumDesc.{EnumDesc}
-use Rattle.proto_desc.specs.declared.message.MessageDesc.{MessageDesc}
-use Rattle.proto_desc.specs.declared.message.MessageDesc.TheOpen.{MessageDesc-F}
-use Rattle.proto_desc.specs.declared.message.MessageDesc.TheViews.{roll-MessageDesc, out-MessageDesc, out-roll-MessageDesc}
-use Rattle.proto_desc.specs.declared.message.MessageDesc.TheFolds.{fold_out-MessageDesc, ind-MessageDesc, map-MessageDesc}
+use Rattle.proto_desc.specs.declared.message.MessageDesc.{MessageDesc, MessageDesc-F, roll-MessageDesc, out-MessageDesc, out-roll-MessageDesc, fold_out-MessageDesc, ind-MessageDesc, map-MessageDesc}
 use Rattle.proto_desc.specs.declared.oneof.OneofDesc.{OneofDesc}
 use Rattle.proto_desc.specs.declared.service.MethodDesc.{MethodDesc}
 use Rattle.proto_desc.specs.declared.service.ServiceDesc.{ServiceDesc}
@@ -95,9 +91,6 @@ pub split : {X : Type 0} (P : X → Type 0) (xs ys : List X) → AllByRecursion 
     → AllByRecursion P xs × AllByRecursion P ys
 split P [] ys all = (tt, all)
 split P (x ∷ xs) ys all = let r = split P xs ys all.1 in ((all.0, r.0), r.1)
-
-pub rest : {X : Type 0} (P : X → Type 0) (xs ys : List X) → AllByRecursion P (xs ++ ys) → AllByRecursion P ys
-rest P xs ys all = (split P xs ys all).1
 
 pub every : {X : Type 0} (P : X → Type 0) (xs : List X) → ((x : X) → P x) → AllByRecursion P xs
 every P [] h = tt
@@ -175,8 +168,7 @@ pub by_nested : (Q : MessageDesc → Type 0)
     → ((m : MessageDesc) → AllByRecursion Q (out-MessageDesc m).nested → Q m) → (m : MessageDesc) → Q m
 by_nested Q step = ind-MessageDesc Q (λ x y e. subst (λ z. Q (roll-MessageDesc z)) e
     (let m : MessageDesc-F MessageDesc = map-MessageDesc ((m : MessageDesc) × Q m) MessageDesc (λ e. e.0) y in
-    step (roll-MessageDesc m) (subst (λ (o : MessageDesc-F MessageDesc). AllByRecursion Q o.nested)
-    (sym (out-roll-MessageDesc m)) (known Q y.nested))))
+    step (roll-MessageDesc m) (rw (out-roll-MessageDesc m) (known Q y.nested))))
 
 pub places_out : (m : MessageDesc) → message_places m
     ≡ (out-MessageDesc m).place.offset
@@ -230,12 +222,6 @@ module _ (region : ℕ → Type 0) where
   each_made P lower f g xs h all = each_map P lower (flat_map g xs)
       (each_given (λ x. Within region (f x)) (λ y. P (lower y)) g xs h all)
 
-  each_lowered : {A B C : Type 0} (places : C → List ℕ) (lower : B → C) (f : A → Tree) (g : A → List B) (xs : List A)
-      → ((x : A) → Within region (f x) → AllByRecursion (λ y. AreIn region (places (lower y))) (g x)) → EachIn f xs
-      → AreIn region (flat_map places (map lower (flat_map g xs)))
-  each_lowered places lower f g xs h all = each_flat region places (map lower (flat_map g xs))
-      (each_made (λ z. AreIn region (places z)) lower f g xs h all)
-
   -- ---- options
 
   abbrev OptionWithin : OptionDesc → Type 0
@@ -266,12 +252,8 @@ module _ (region : ℕ → Type 0) where
   described_within : (d : Declarator) (label : FieldLabel) (kind : FieldKind) (oneof : Option ℕ) (is_optional : Bool)
       → Within region (declarator_tree d) → AreIn region (kind_places kind)
       → FieldWithin (described d label kind oneof is_optional)
-  described_within d label kind oneof is_optional all of_kind = (
-    all.0,
-    both region (kind_places kind) _ of_kind
-        (each_map region option_place (options_of element.Field (bracketed d.options))
-        (options_within element.Field (bracketed d.options) (bracketed_of d.options all.1.1.1.0))),
-  )
+  described_within d label kind oneof is_optional all of_kind =
+      grind (arith, both region, bracketed_of, each_map region option_place, options_within element.Field)
 
   -- a field as a statement, whichever rule has it
   pub statement_field : (label : Option Label) (t : FieldType) (d : Declarator)
@@ -287,23 +269,21 @@ module _ (region : ℕ → Type 0) where
       → AllByRecursion FieldWithin (fields_from full real made is)
   fields_within full real made [] all = tt
   fields_within full real made (message_item.Field f ∷ is) all =
-      let parts = statement_field f.label f.field_type f.declarator
-      (subst (Within region) (item_field f) all.0) in (
+      let parts = statement_field f.label f.field_type f.declarator (rw item_field at all.0) in (
         described_within f.declarator (label_of f.label) (kind_of f.field_type)
             (cond (is_optional f.label) (Some made) None) (is_optional f.label) parts.1 parts.0,
-        fields_within full real (made + cond (is_optional f.label) 1 0) is all.1,
+        fields_within full real _ is all.1,
       )
-  fields_within full real made (message_item.Map m ∷ is) all = (
-    described_within m.declarator Repeated
-        (Named (Resolved (inner full (entry_name_of m.declarator.name.text)) type_kind.Message)) None false
-        (subst (Within region) (item_map m) all.0).1.1 tt,
-    fields_within full real made is all.1,
-  )
+  fields_within full real made (message_item.Map m ∷ is) all =
+      let entry = Named (Resolved (inner full (entry_name_of m.declarator.name.text)) type_kind.Message) in (
+        described_within m.declarator Repeated entry None false (rw item_map at all.0).1.1 tt,
+        fields_within full real made is all.1,
+      )
   fields_within full real made (message_item.Oneof o ∷ is) all =
       both FieldWithin (map (member_at real) (flat_map oneof_field o.items)) (fields_from full (real + 1) made is)
       (each_made FieldWithin (member_at real) oneof_item_tree oneof_field _
       (λ i w. grind (arith, member_within real))
-      (listed oneof_item_tree o.items (subst (Within region) (item_oneof o) all.0).1.1.1.0))
+      (listed oneof_item_tree o.items (rw item_oneof at all.0).1.1.1.0))
       (fields_within full (real + 1) made is all.1)
   fields_within full real made (i ∷ is) all = fields_within full real made is all.1
 
@@ -332,18 +312,18 @@ module _ (region : ℕ → Type 0) where
 
   -- ---- messages
 
-  abbrev DescWithin : MessageDesc → Type 0
+  abbrev pub DescWithin : MessageDesc → Type 0
   DescWithin m = AreIn region (message_places m)
 
   desc_within : (m : MessageDesc-F MessageDesc) → region (m.place.offset) → AllByRecursion FieldWithin m.fields
-      → AllByRecursion OneofWithin m.oneofs → AreIn region (flat_map enum_places m.enums)
+      → AllByRecursion OneofWithin m.oneofs → AllByRecursion EnumWithin m.enums
       → AllByRecursion DescWithin m.nested → DescWithin (roll-MessageDesc m)
   desc_within m place fields oneofs enums nested = rw (places_out, out-roll-MessageDesc) (
     place,
     both region _ _
         (both region _ _
         (both region _ _ (each_flat region field_places m.fields fields)
-        (each_map region oneof_place m.oneofs oneofs)) enums)
+        (each_map region oneof_place m.oneofs oneofs)) (each_flat region enum_places m.enums enums))
         (each_flat region message_places m.nested nested),
   )
 
@@ -355,13 +335,12 @@ module _ (region : ℕ → Type 0) where
   ItemNested i = Within region (message_item_tree i) → (full : List ℕ) → AllByRecursion DescWithin (nested_of full i)
 
   message_nested : (m : Message) → MessageNested m → ItemNested (of.Message m)
-  message_nested m held all full = subst (AllByRecursion DescWithin) (sym (nested_message full m))
-      (held (subst (Within region) (item_message m) all) full, tt)
+  message_nested m held all full = rw nested_message (held (rw item_message at all) full, tt)
 
   other_nested : (i : MessageItem) → IsOther i → ItemNested i
   other_nested (message_item.Message' boxed rows) never all full = absurd never
   other_nested (message_item.Map m) is all full =
-      let tree : Within region (map_tree m) = subst (Within region) (item_map m) all in
+      let tree = rw item_map at all in
       let value = both region (kind_places (kind_of m.map_type.value)) []
       (kind_within m.map_type.value tree.1.0.1.1.1.0) tt in
       (desc_within _ tree.1.1.0 ((tree.1.1.0, tt), ((tree.1.1.0, value), tt)) tt tt tt, tt)
@@ -376,26 +355,18 @@ module _ (region : ℕ → Type 0) where
       (made_within _ (real_oneofs m.items) (all_fields full m.items)
       (each_made OneofWithin (λ o. real_named o.name) message_item_tree message_oneof _
       (λ i w. grind (arith, item_oneof)) items) fields)
-      (each_lowered enum_places lowered_enum message_item_tree message_enum _
+      (each_made EnumWithin lowered_enum message_item_tree message_enum _
       (λ i w. grind (arith, item_enum, enum_within)) items)
       (each_held ItemNested (λ i. Within region (message_item_tree i)) DescWithin (nested_of full) m.items
       (λ i h w. h w full) held items)
 
   -- ---- services
 
-  rpc_type_within : (t : RpcType) → Within region (rpc_type_tree t)
-      → AreIn region (reference_places (reference_of t.name))
-  rpc_type_within t all = grind arith
-
   abbrev pub MethodWithin : MethodDesc → Type 0
   MethodWithin m = AreIn region (method_places m)
 
   rpc_within : (r : Rpc) → Within region (rpc_tree r) → MethodWithin (method_desc r)
-  rpc_within r all = (
-    all.1.0,
-    both region (reference_places (reference_of r.input.name)) (reference_places (reference_of r.output.name))
-        (rpc_type_within r.input all.1.1.0) (rpc_type_within r.output all.1.1.1.1.0),
-  )
+  rpc_within r all = grind (arith, both region)
 
   abbrev pub ServiceWithin : ServiceDesc → Type 0
   ServiceWithin s = AreIn region (service_places s)
@@ -403,8 +374,8 @@ module _ (region : ℕ → Type 0) where
   service_within : (s : Service) → Within region (service_tree s) → ServiceWithin (lowered_service s)
   service_within s all = (
     all.1.0,
-    each_lowered method_places method_desc service_item_tree service_rpc _ (λ i w. grind (arith, rpc_within))
-        (listed service_item_tree s.items all.1.1.1.0),
+    each_flat region method_places _ (each_made MethodWithin method_desc service_item_tree service_rpc _
+        (λ i w. grind (arith, rpc_within)) (listed service_item_tree s.items all.1.1.1.0)),
   )
 
   -- ---- files
@@ -414,20 +385,38 @@ module _ (region : ℕ → Type 0) where
   package_within [] all = tt
   package_within (p ∷ ps) all = (all.0.1.0.0, tt)
 
+  -- each part of a descriptor lies in the region
+  pub record FileParts (d : FileDesc) : Type 0 where
+    pub own : AreIn region (package_places d.«package»)
+    pub imports : AllByRecursion (λ i. region (import_place i)) d.imports
+    pub messages : AllByRecursion DescWithin d.messages
+    pub enums : AllByRecursion EnumWithin d.enums
+    pub services : AllByRecursion ServiceWithin d.services
+
+  pub lowered_parts : (name : List ℕ) (file : FileTree) → Within region (row statement_tree file.statements)
+      → FileParts (lowered name file)
+  lowered_parts name file all =
+      let scope = package_scope (package_of file.statements) in
+      let ss = listed statement_tree file.statements all in
+      record {
+        own = package_within _ (each_part statement_tree file_package package_tree _ (λ s w. grind arith) ss);
+        imports = each_given (λ s. Within region (statement_tree s)) (λ i. region (import_place i)) import_of
+            file.statements (λ s w. grind arith) ss;
+        messages = each_made DescWithin (lowered_message scope) statement_tree file_message _
+            (λ s w. grind (arith, by_items ItemNested MessageNested message_nested other_nested message_step)) ss;
+        enums = each_made EnumWithin lowered_enum statement_tree file_enum _ (λ s w. grind (arith, enum_within)) ss;
+        services = each_made ServiceWithin lowered_service statement_tree file_service _
+            (λ s w. grind (arith, service_within)) ss;
+      }
+
   pub lowered_within : (name : List ℕ) (file : FileTree) → Within region (row statement_tree file.statements)
       → AreIn region (places_of (lowered name file))
   lowered_within name file all =
-      let scope = package_scope (package_of file.statements) in
-      let ss = listed statement_tree file.statements all in
+      let at = lowered_parts name file all in
       both region _ _
       (both region _ _
       (both region _ _
-      (both region _ _
-      (package_within _ (each_part statement_tree file_package package_tree _ (λ s w. grind arith) ss))
-      (each_map region import_place _ (each_given (λ s. Within region (statement_tree s))
-      (λ i. region (import_place i)) import_of file.statements (λ s w. grind arith) ss)))
-      (each_lowered message_places (lowered_message scope) statement_tree file_message _
-      (λ s w. grind (arith, by_items ItemNested MessageNested message_nested other_nested message_step)) ss))
-      (each_lowered enum_places lowered_enum statement_tree file_enum _ (λ s w. grind (arith, enum_within)) ss))
-      (each_lowered service_places lowered_service statement_tree file_service _
-      (λ s w. grind (arith, service_within)) ss)
+      (both region _ _ at.own (each_map region import_place _ at.imports))
+      (each_flat region message_places _ at.messages))
+      (each_flat region enum_places _ at.enums))
+      (each_flat region service_places _ at.services)

@@ -1,12 +1,17 @@
 -- Files by their positions in set order, and what lists of positions say of files.
-use Rattle.std.proofs.Common.{◌≡◌, refl, ℕ, ◌+◌, ◌<◌, List, [], length, map, get_or, arith, inl, inr, Vec, Global, Contains, ◌↔◌, IsTrue, ◌==◌, eqb-true}
+use Rattle.std.proofs.Common.{rules, ◌≡◌, ℕ, ◌<◌, [], length, get_or, zero-add, refl, ◌+◌, List, map, arith, inl, inr, Vec, Global, Contains, ◌↔◌, IsTrue, ◌==◌, eqb-true}
+use Rattle.std.proofs.lemmas.List.Elements.{Contains-get_or}
+use Rattle.std.proofs.lemmas.List.{get_or-map, get_or_default, length-map}
+use Rattle.std.proofs.lemmas.List.FromFn.{get_or-map-range_with_len}
+use Rattle.bit_matrix.specs.Bits.{has as is_set, Bits}
+use Rattle.bit_matrix.specs.Changes.{columns_of, Has}
+use Rattle.proto_links.specs.Layout.{linked, list_at, IsLaidOut}
+use Rattle.proto_links.specs.Linked.{reach_of, sees, AreLinked, IsReach}
+use Rattle.proto_links.specs.declared.links.Links.TheInside.{Inside}
 use Rattle.std.specs.Set.{is_member}
 use Rattle.std.specs.Cmp.{nat_eq_equiv}
 use Rattle.std.proofs.lemmas.Grind.{common_steps}
-use Rattle.std.proofs.lemmas.List.{get_or-map, get_or_default, length-map}
 use Rattle.std.proofs.lemmas.Map.Views.{Contains-from_any, list_any-from_Contains}
-use Rattle.bit_matrix.specs.Bits.{Bits}
-use Rattle.bit_matrix.specs.Changes.{Has, columns_of}
 use Rattle.digraph.specs.Edges.{Graph, Edge, IsFalling, IsWithin, graph_of}
 use Rattle.digraph.specs.Leads.{Leads, here, through}
 use Rattle.digraph.specs.Reaches.{IsReach as IsReachList}
@@ -20,23 +25,27 @@ use Rattle.digraph.proofs.Ways.{leads_map, leads_le}
 use Rattle.proto_desc.specs.declared.file.FileDesc.{FileDesc}
 use Rattle.proto_links.specs.Graphs.{IsGraph, IsPublicGraph}
 use Rattle.proto_links.specs.Imports.{Imports, ImportsPublicly}
-use Rattle.proto_links.specs.Layout.{IsLaidOut, linked}
-use Rattle.proto_links.specs.Linked.{AreLinked, IsReach}
-use Rattle.proto_links.specs.Positioned.{ArePositioned, AreFilesReached, AreFilesSeen, AreRanked, file_imports, import_rows}
+use Rattle.proto_links.specs.Positioned.{ArePositioned, AreFilesReached, AreFilesSeen, AreRanked, import_rows}
 use Rattle.proto_links.specs.Visible.{Sees}
 use Rattle.proto_links.specs.declared.graph.Graph.{Graph as ImportGraph}
-use Rattle.proto_links.specs.declared.links.Links.TheInside.{Inside}
 use Rattle.proto_links.specs.declared.positioned.Positioned.{Positioned}
-use Rattle.proto_links.proofs.Laying.{reach_there, sees_there}
 use Rattle.proto_links.proofs.Reaching.{public_imports, leads_inside, SeesBy, sees_is}
+
+module _ (inside : Inside) (a : ℕ) (h : a < length inside.positions.items) where
+  pub reach_there : reach_of (linked inside) a ≡ list_at inside.reach (get_or inside.positions.items a 0)
+  reach_there = get_or-map (list_at inside.reach) inside.positions.items a 0 [] h
+
+  pub sees_there : (b : ℕ) → b < columns_of inside.seen
+      → sees (linked inside) a b ≡ is_set inside.seen (get_or inside.positions.items a 0) b
+  sees_there b column = grind (arith, get_or-map, get_or-map-range_with_len, zero-add)
 
 -- ---- graphs of files
 
 pub graph_within : {files : List FileDesc} {g : Graph} → IsGraph files g → IsWithin g (length g)
-graph_within is a b edge = let named = ((is.edges a b).0 edge).2 in omega (arith, named.0, is.size)
+graph_within is a b edge = let named = ((is.edges a b).0 edge).2 in omega arith
 
 pub public_within : {files : List FileDesc} {g : Graph} → IsPublicGraph files g → IsWithin g (length g)
-public_within is a b edge = let named = ((is.edges a b).0 edge).3 in omega (arith, named.0, is.size)
+public_within is a b edge = let named = ((is.edges a b).0 edge).3 in omega arith
 
 pub rows_within : (rows : List (Vec ℕ Global)) → IsWithin (graph_of rows) (length (graph_of rows))
     → IsWithin (graph_of rows) (length rows)
@@ -67,29 +76,28 @@ has_is x xs = (Contains-from_any eqb-true x xs, list_any-from_Contains nat_eq_eq
 
 module _ {files : List FileDesc} {graph : ImportGraph} {ranking : Ranking} (r : AreRanked files graph ranking) where
   order_size : length ranking.order.items ≡ length files
-  order_size = omega (arith, r.order.size, r.ranks.size, r.imports.size)
+  order_size = omega arith
 
 -- ---- files and positions
 
 module _ {files : List FileDesc} {graph : ImportGraph} {ranking : Ranking} {positioned : Positioned}
     (m : ArePositioned files graph ranking positioned) where
   pub rows_size : length positioned.imports.items ≡ length ranking.order.items
-  rows_size = omega (arith, m.imports.size, length_graph positioned.imports.items)
+  rows_size = omega (arith, length_graph positioned.imports.items)
 
   pub public_size : length positioned.public_imports.items ≡ length positioned.imports.items
-  public_size = omega (arith, rows_size, m.public_imports.size, length_graph positioned.public_imports.items)
+  public_size = omega (arith, rows_size, length_graph positioned.public_imports.items)
 
   -- imports go to lower positions
   pub rows_fall : IsFalling (import_rows positioned)
-  rows_fall = renumbered_falls (file_imports graph) (file_imports graph) ranking.ranks.items ranking.order.items
-      (import_rows positioned) m.ranked.ranks m.ranked.order (λ a b edge. edge) m.imports
+  rows_fall = search (rules, renumbered_falls)
 
   -- each file has a position, and is the file there
   position_below : (a : ℕ) → a < length files → position_of positioned a < length positioned.imports.items
   position_below a h = grind (arith, order_size, rows_size)
 
   file_there : (a : ℕ) → a < length files → file_at ranking (position_of positioned a) ≡ a
-  file_there a h = (m.positions.node a (omega (arith, h, order_size m.ranked))).1
+  file_there a h = (m.positions.node a (omega (arith, order_size m.ranked))).1
 
   -- ---- ways between positions, and between files
 
@@ -109,9 +117,8 @@ module _ {files : List FileDesc} {graph : ImportGraph} {ranking : Ranking} {posi
         (ways_to g ranking.order.items rows r k (position_of positioned a) way)),
     λ way. (
       position_of positioned c,
-      ways_from g ranking.order.items positioned.positions.items rows m.positions
-          (omega (arith, size, order_size m.ranked)) within r c a (omega (arith, h, order_size m.ranked))
-          (leads_map P (Edge g) (λ x y. (edges x y).1) c a way),
+      ways_from g _ _ rows m.positions (omega (arith, order_size m.ranked)) within r c a
+          (omega (arith, order_size m.ranked)) (leads_map P (Edge g) (λ x y. (edges x y).1) c a way),
       file_there c (inside way),
     ),
   )
@@ -130,17 +137,13 @@ module _ {files : List FileDesc} {graph : ImportGraph} {ranking : Ranking} {posi
           λ r. (let (k, way, at) = ways.1 r in list_is.1 (k, (is.members k).1 way, at)),
         ));
     rises = λ k more. (
-        let next : k + 1 < length list = omega (arith, more, length-map list (file_at ranking)) in
-        let last = get_or list (k + 1) 0 in
-        let below = leads_le (import_rows positioned) last (position_of positioned a) rows_fall
-        ((is.members last).0 (k + 1, next, grind (arith, common_steps))) in
-        let inside = position_below a h in
-        let far = before_far ranking.ranks.items ranking.order.items m.ranked.order (get_or list k 0) last
-        (is.rises k next) (omega (arith, below, inside, rows_size)) in
-        rw (
-          get_or-map (file_at ranking) list k 0 0 (omega (arith, next)),
-          get_or-map (file_at ranking) list (k + 1) 0 0 next,
-        ) far);
+        let next : k + 1 < length list = omega (arith, length-map list (file_at ranking)) in
+        let below = leads_le (import_rows positioned) _ _ rows_fall
+        ((is.members _).0 (Contains-get_or list (k + 1) 0 next)) in
+        let far = before_far ranking.ranks.items ranking.order.items m.ranked.order (get_or list k 0)
+        (get_or list (k + 1) 0) (is.rises k next) (omega (arith, position_below a h, rows_size)) in
+        rw (get_or-map (file_at ranking) list k 0 0 (omega arith), get_or-map (file_at ranking) list (k + 1) 0 0 next)
+        far);
   }
 
   -- ---- what a file sees
@@ -152,10 +155,10 @@ module _ {files : List FileDesc} {graph : ImportGraph} {ranking : Ranking} {posi
 
   module _ {seen : Bits} (s : AreFilesSeen ranking positioned seen) where
     column_inside : (b : ℕ) → b < length files → b < columns_of s.reach
-    column_inside b h = omega (arith, h, order_size m.ranked, s.reaches.columns)
+    column_inside b h = omega (arith, order_size m.ranked)
 
     row_inside : (a : ℕ) → a < length files → position_of positioned a < s.reach.rows
-    row_inside a h = omega (arith, position_below a h, rows_size, s.reaches.rows)
+    row_inside a h = omega (arith, position_below a h, rows_size)
 
     -- by public imports
     reached : (a b : ℕ) → a < length files → b < length files
@@ -173,7 +176,7 @@ module _ {files : List FileDesc} {graph : ImportGraph} {ranking : Ranking} {posi
             | inl own ↦ public_seen a b ((reached a b ha hb).0 own)
             | inr (k, edge, v) ↦
                 let (less, at) = m.positions.position k (m.imports.within (position_of positioned a) k edge) in
-                let inside : file_at ranking k < length files = omega (arith, less, order_size m.ranked) in
+                let inside : file_at ranking k < length files = omega (arith, order_size m.ranked) in
                 inr (
                   file_at ranking k,
                   (edge_is a (file_at ranking k) ha inside).0 (rw at edge),
@@ -198,13 +201,13 @@ module _ {files : List FileDesc} {graph : ImportGraph} {ranking : Ranking} {posi
     (m : ArePositioned files graph ranking positioned) (r : AreFilesReached ranking positioned reach)
     (s : AreFilesSeen ranking positioned seen) where
   ranks_size : length ranking.ranks.items ≡ length files
-  ranks_size = omega (arith, m.ranked.order.size, order_size m.ranked)
+  ranks_size = omega (arith, order_size m.ranked)
 
   abbrev kept : Inside
   kept = layout ranking positioned reach seen
 
   positions_size : length positioned.positions.items ≡ length files
-  positions_size = omega (arith, m.positions.size, order_size m.ranked)
+  positions_size = omega (arith, order_size m.ranked)
 
   position_inside : (k d : ℕ) → k < length positioned.positions.items
       → get_or positioned.positions.items k d < length positioned.imports.items
@@ -220,7 +223,7 @@ module _ {files : List FileDesc} {graph : ImportGraph} {ranking : Ranking} {posi
     count = ranks_size;
     ranks = record {
       above = λ a b i. m.ranked.ranks.above a b ((m.ranked.imports.edges a b).1 i);
-      least = λ a h. (elim (m.ranked.ranks.least a (omega (arith, h, m.ranked.imports.size))) [
+      least = λ a h. (elim (m.ranked.ranks.least a (omega arith)) [
         | inl zero ↦ inl zero
         | inr (b, edge, more) ↦ inr (b, (m.ranked.imports.edges a b).0 edge, more)
       ]);
@@ -233,10 +236,10 @@ module _ {files : List FileDesc} {graph : ImportGraph} {ranking : Ranking} {posi
         let k = position_of positioned a in
         let inside = position_below m a h in
         rw (
-          reach_there kept a (omega (arith, h, positions_size)),
+          reach_there kept a (omega (arith, positions_size)),
           r.named,
-          get_or-map (λ (list : List ℕ). map (file_at ranking) list) r.lists k [] [] (omega (arith, inside, r.size)),
+          get_or-map (λ (list : List ℕ). map (file_at ranking) list) r.lists k [] [] (omega arith),
         ) (reach_is m a (get_or r.lists k []) h (r.reaches k inside)));
-    sees = λ a b ha hb. rw (sees_there kept a (omega (arith, ha, positions_size)) b
-        (omega (arith, hb, ranks_size, laid_out.columns))) (seen_is m s a b ha hb);
+    sees = λ a b ha hb. rw (sees_there kept a (omega (arith, positions_size)) b
+        (omega (arith, ranks_size, laid_out.columns))) (seen_is m s a b ha hb);
   }

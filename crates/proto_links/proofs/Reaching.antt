@@ -58,14 +58,14 @@ module _ {files : List FileDesc} {g : Graph} {ranks : List ℕ} (is : IsGraph fi
   rank_falls : (c a : ℕ) → Reaches files a c → rank_in ranks c ≤ rank_in ranks a
   rank_falls c _ here = omega arith
   rank_falls c _ (through a b i more) =
-      let less = ranked.above a b ((is.edges a b).1 i) in let rest = rank_falls c b more in omega (arith, less, rest)
+      let less = ranked.above a b ((is.edges a b).1 i) in let rest = rank_falls c b more in omega arith
 
   not_wrong : (a : ℕ) (i : ImportDesc) (k : Kind) → (HasMissing files (imports_at files a) → ⊥)
       → Contains (imports_at files a) i → IsWrong files a i k → ⊥
   not_wrong a i _ whole w (missing none) = whole (i, w, none)
   not_wrong a i _ whole w (cyclic b n reach) =
       let less = ranked.above a b ((is.edges a b).1 (i, w, n)) in let back = rank_falls a b reach in
-      omega (arith, less, back)
+      omega arith
 
   pub none_bad : ((a : ℕ) → HasMissing files (imports_at files a) → ⊥) → NoneBad files
   none_bad whole a p k (i, w, at, wrong) = not_wrong a i k (whole a) w wrong

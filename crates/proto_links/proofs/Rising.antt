@@ -14,13 +14,13 @@ pub record IsStrict {X : Type 0} (R : X → X → Type 0) : Type 0 where
 -- ---- members
 
 pub none_in : {X : Type 0} (x : X) → Contains {X = X} [] x → ⊥
-none_in x (k, inside, is) = omega (arith, inside)
+none_in x (k, inside, is) = omega arith
 
 pub front : {X : Type 0} (x : X) (xs : List X) → Contains (x ∷ xs) x
 front x xs = (zero, omega arith, refl)
 
 pub behind : {X : Type 0} (x : X) (xs : List X) (z : X) → Contains xs z → Contains (x ∷ xs) z
-behind x xs z (k, inside, is) = (suc k, omega (arith, inside), is)
+behind x xs z (k, inside, is) = (suc k, omega arith, is)
 
 pub front_or_behind : {X : Type 0} (x : X) (xs : List X) (z : X) → Contains (x ∷ xs) z → (x ≡ z) ⊎ Contains xs z
 front_or_behind x xs z w = grind (arith, common_steps)
@@ -32,7 +32,7 @@ pub next_behind : {X : Type 0} (x : X) (xs : List X) (k : ℕ) (d : X)
 next_behind x xs k d = let at : suc k + 1 ≡ suc (k + 1) = omega arith in ap (λ i. get_or (x ∷ xs) i d) at
 
 pub rest_rises : {X : Type 0} (R : X → X → Type 0) (x : X) (xs : List X) → Rises R (x ∷ xs) → Rises R xs
-rest_rises R x xs up k d h = subst (R (get_or xs k d)) (next_behind x xs k d) (up (suc k) d (omega (arith, h)))
+rest_rises R x xs up k d h = subst (R (get_or xs k d)) (next_behind x xs k d) (up (suc k) d (omega arith))
 
 pub first_two : {X : Type 0} (R : X → X → Type 0) (x y : X) (xs : List X) → Rises R (x ∷ y ∷ xs) → R x y
 first_two R x y xs up = up zero x (omega arith)

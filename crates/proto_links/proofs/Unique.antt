@@ -16,7 +16,7 @@ use Rattle.proto_links.proofs.Rising.{IsStrict, Rises, one_rising}
 
 rank_le : (files : List FileDesc) (f g : ℕ → ℕ) → AreRanks files f → AreRanks files g → (rank a : ℕ) → a < length files
     → f a ≡ rank → f a ≤ g a
-rank_le files f g first second zero a h e = omega (arith, e)
+rank_le files f g first second zero a h e = omega arith
 rank_le files f g first second (suc rank) a h e =
     let least = first.least a h in
     grind (arith, rank_le files f g first second rank, second.above a)
@@ -24,10 +24,7 @@ rank_le files f g first second (suc rank) a h e =
 -- ---- set order
 
 pub before_strict : (rank : ℕ → ℕ) → IsStrict (IsBefore rank)
-before_strict rank = record {
-  never = λ a before. grind (arith, common_steps);
-  trans = λ a b c before after. grind (arith, common_steps);
-}
+before_strict rank = grind (arith, common_steps)
 
 same_before : (f g : ℕ → ℕ) (a b : ℕ) → f a ≡ g a → f b ≡ g b → IsBefore f a b → IsBefore g a b
 same_before f g a b ea eb before = grind (arith, common_steps)
@@ -39,13 +36,15 @@ pub one_set_order : (files : List FileDesc) (links others : Linked) → AreLinke
     → links.set_order ≡ others.set_order
 one_set_order files links others first second =
     let rank = rank_of others in
-    let same : (a : ℕ) → a < length files → rank_of links a ≡ rank a = λ a h. (
-    let up = rank_le files (rank_of links) rank first.ranks second.ranks (rank_of links a) a h refl in
-    let down = rank_le files rank (rank_of links) second.ranks first.ranks (rank a) a h refl in
-    omega (arith, up, down)) in
+    let same : (a : ℕ) → a < length files → rank_of links a ≡ rank a =
+    λ a h. omega (
+      arith,
+      rank_le files (rank_of links) rank first.ranks second.ranks (rank_of links a) a h refl,
+      rank_le files rank (rank_of links) second.ranks first.ranks (rank a) a h refl,
+    ) in
     one_rising (IsBefore rank) (before_strict rank) links.set_order others.set_order
     (λ k d h. same_before (rank_of links) rank _ _
-    (same _ ((first.order.every _).0 (Contains-get_or links.set_order k d (omega (arith, h)))))
+    (same _ ((first.order.every _).0 (Contains-get_or links.set_order k d (omega arith))))
     (same _ ((first.order.every _).0 (Contains-get_or links.set_order (k + 1) d h)))
     (order_rises (rank_of links) links.set_order first.order.rises k d h))
     (order_rises rank others.set_order second.order.rises)

@@ -1,6 +1,6 @@
 -- What the links of any files reach.
 use Rattle.std.proofs.lemmas.Grind.{common_steps}
-use Rattle.std.proofs.Common.{ne_eqb, get_or, ◌≡◌, sym, ℕ, ◌<◌, Bool, true, false, List, [], ◌∷◌, length, refl, arith, Contains, filter, ◌==◌, cond, ◌↔◌, true≢false}
+use Rattle.std.proofs.Common.{ne_eqb, get_or, ◌≡◌, sym, ℕ, ◌<◌, Bool, true, false, List, [], ◌∷◌, refl, arith, Contains, filter, ◌==◌, cond, ◌↔◌, true≢false}
 use Rattle.std.specs.Set.{is_member}
 use Rattle.std.specs.List.{IsDistinct}
 use Rattle.std.proofs.lemmas.Map.Steps.{length-le_from_distinct_below, le-length_from_below}
@@ -65,11 +65,9 @@ whole_of files links is =
     let R = IsBefore rank in
     let strict = before_strict rank in
     let order = order_rises rank links.set_order is.order.rises in
-    let below : (a : ℕ) → a < count_of links → a < length files = λ a h. omega (arith, h, is.count) in
-    let at : (a : ℕ) → a < count_of links → IsReach files rank a (reach_of links a) = λ a h. is.reach a (below a h) in
+    let at : (a : ℕ) → a < count_of links → IsReach files rank a (reach_of links a) = λ a h. is.reach a (omega arith) in
     let within : (a b : ℕ) → a < count_of links → Contains (reach_of links a) b → b < count_of links =
-    λ a b h w. (let inside = leads_inside files b a (below a h) (((at a h).members b).0 w) in
-    omega (arith, inside, is.count)) in
+    λ a b h w. omega (arith, leads_inside files b a (omega arith) (((at a h).members b).0 w)) in
     let every : (a : ℕ) → Contains links.set_order a ↔ (a < count_of links) =
     λ a. rw (sym is.count) at (is.order.every a) in
     let each : IsDistinct ◌==◌ links.set_order = once_of R strict links.set_order order in
@@ -88,10 +86,11 @@ whole_of files links is =
           (λ b w. (has_is b (reach_of links a)).0 (kept_to test links.set_order b w).1));
       every = every;
       each_once = each;
-      size = (
-          let most = length-le_from_distinct_below links.set_order (count_of links) each
-          (λ q w. (every q).0 ((has_is q links.set_order).0 w)) in
-          let least = le-length_from_below links.set_order (count_of links)
-          (λ q h. (has_is q links.set_order).1 ((every q).1 h)) in
-          omega (arith, most, least));
+      size = omega (
+        arith,
+        length-le_from_distinct_below links.set_order (count_of links) each
+            (λ q w. (every q).0 ((has_is q links.set_order).0 w)),
+        le-length_from_below links.set_order (count_of links)
+            (λ q h. (has_is q links.set_order).1 ((every q).1 h)),
+      );
     }

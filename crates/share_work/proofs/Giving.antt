@@ -1,5 +1,6 @@
 -- What work in shares gives for items, and what holds of each item and what is given for it.
-use Rattle.std.proofs.Common.{◌≡◌, ◌∙◌, sym, ap, subst, refl, Some, ℕ, zero, suc, ◌+◌, ◌<◌, List, [], ◌∷◌, ◌++◌, length, take, get_or, map, arith, rules}
+use Rattle.std.proofs.Common.{◌≡◌, ◌∙◌, sym, ap, refl, Some, ℕ, zero, suc, ◌+◌, ◌<◌, List, [], ◌∷◌, ◌++◌, length, take, get_or, map, arith, rules}
+use Rattle.std.proofs.Math.Nat.{add-zero, zero-add}
 use Rattle.std.specs.List.{AllZip}
 use Rattle.std.specs.Prelude.{Result, Ok, slice_get}
 use Rattle.std.proofs.lemmas.List.{get_or_default, length-map, length-take-le, take_more}
@@ -14,11 +15,9 @@ gives_each R P none more a [] [] gives = none a
 gives_each R P none more a [] (y ∷ ys) gives = absurd (omega (arith, gives.0))
 gives_each R P none more a (x ∷ xs) [] gives = absurd (omega (arith, gives.0))
 gives_each R P none more a (x ∷ xs) (y ∷ ys) gives =
-    let here : a + 0 ≡ a = omega arith in
-    more a x y xs ys (subst (λ k. R k x y) here (gives.1 0 x y refl refl)) (gives_each R P none more (a + 1) xs ys (
+    more a x y xs ys (rw add-zero at (gives.1 0 x y refl refl)) (gives_each R P none more (a + 1) xs ys (
       omega (arith, gives.0),
-      λ i t o item out. let next : a + suc i ≡ a + 1 + i = omega arith in
-          subst (λ k. R k t o) next (gives.1 (suc i) t o item out),
+      λ i t o item out. let next : a + 1 + i ≡ a + suc i = omega arith in rw next (gives.1 (suc i) t o item out),
     ))
 
 -- one more in front
@@ -26,19 +25,15 @@ gives_first : {X Y : Type 0} (R : ℕ → X → Y → Type 0) (a : ℕ) (x : X) 
     → GivesItems R (a + 1) xs ys → (i : ℕ) (t : X) (o : Y) → slice_get (x ∷ xs) i ≡ Some t
     → slice_get (y ∷ ys) i ≡ Some o → R (a + i) t o
 gives_first R a x y xs ys here rest zero t o item out =
-    let at : a ≡ a + 0 = omega arith in
-    let is : x ≡ t = cc in
-    let gives : y ≡ o = cc in
-    subst (λ k. R k t o) at (subst (R a t) gives (subst (λ z. R a z y) is here))
+    let is : x ≡ t = cc in let gives : y ≡ o = cc in rw (← is, ← gives, add-zero) here
 gives_first R a x y xs ys here rest (suc i) t o item out =
-    let at : a + 1 + i ≡ a + suc i = omega arith in
-    subst (λ k. R k t o) at (rest.1 i t o item out)
+    let at : a + suc i ≡ a + 1 + i = omega arith in rw at (rest.1 i t o item out)
 
 -- more behind
 pub gives_append : {X Y : Type 0} (R : ℕ → X → Y → Type 0) (ys : List X) (b : List Y) (a : ℕ) (xs : List X) (o : List Y)
     → GivesItems R a xs o → GivesItems R (a + length xs) ys b → GivesItems R a (xs ++ ys) (o ++ b)
 gives_append R ys b = gives_each R (λ a xs o. GivesItems R (a + length xs) ys b → GivesItems R a (xs ++ ys) (o ++ b))
-    (λ a h. let here : a ≡ a + 0 = omega arith in rw here h)
+    (λ a h. rw add-zero at h)
     (λ a x y xs o here more h. let at : a + 1 + length xs ≡ a + suc (length xs) = omega arith in
     let rest = more (rw at h) in (ap suc rest.0, gives_first R a x y _ _ here rest))
 
@@ -62,8 +57,7 @@ pub given_at : {X Y : Type 0} (R : ℕ → X → Y → Type 0) (xs : List X) (ys
     → GivesItems R 0 xs ys → k < length xs → get_or xs k x ≡ x → get_or ys k d ≡ y → R k x y
 given_at R xs ys k x d y gives h at is =
     let inside : k < length ys = omega (arith, h, gives.0) in
-    let here : 0 + k ≡ k = omega arith in
-    subst (λ i. R i x y) here (gives.1 k x y (slice_get_read xs (length xs) k x refl h (sym at))
+    rw zero-add at (gives.1 k x y (slice_get_read xs (length xs) k x refl h (sym at))
     (slice_get_read ys (length ys) k y refl inside (sym is ∙ get_or_default ys k d y inside)))
 
 -- where each is given `Ok`

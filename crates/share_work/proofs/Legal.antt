@@ -1,5 +1,5 @@
 -- The least number at a word, and calls that stay legal.
-use Rattle.std.proofs.Common.{◌≡◌, ◌≢◌, ℕ, suc, ◌<◌, ◌≤◌, ◌⊎◌, inl, inr, Bool, true, cond, ◌==◌, ◌&&◌, ltb, List, [], ◌∷◌, sym, refl, ap, ◌∙◌, subst, arith, min}
+use Rattle.std.proofs.Common.{◌≡◌, ◌≢◌, ℕ, suc, ◌<◌, ◌≤◌, ◌⊎◌, inl, inr, Bool, true, cond, ◌==◌, ◌&&◌, ltb, List, [], ◌∷◌, sym, refl, ◌∙◌, subst, arith, min}
 use Rattle.std.specs.Prelude.{AllPairs, Contains}
 use Rattle.std.specs.List.{sum_by, count_by}
 use Rattle.std.proofs.lemmas.Bool.{eq-eqb, ne_eqb, cases_Bool, cases_lt, cases_eq}
@@ -12,10 +12,10 @@ use Rattle.share_work.proofs.Sums.{none_in, front, behind, front_or_behind, pair
 
 -- least_at at a pair of that word, and of another
 pub least_here : (w : ℕ) (p : ℕ × ℕ) (ps : List (ℕ × ℕ)) → p.0 ≡ w → least_at w (p ∷ ps) ≡ min p.1 (least_at w ps)
-least_here w p ps e = ap (λ (b : Bool). cond b (min p.1 (least_at w ps)) (least_at w ps)) (eq-eqb p.0 w e)
+least_here w p ps e = grind (arith, eq-eqb)
 
 pub least_else : (w : ℕ) (p : ℕ × ℕ) (ps : List (ℕ × ℕ)) → (p.0 ≡ w → ⊥) → least_at w (p ∷ ps) ≡ least_at w ps
-least_else w p ps n = ap (λ (b : Bool). cond b (min p.1 (least_at w ps)) (least_at w ps)) (ne_eqb p.0 w n)
+least_else w p ps n = grind (arith, ne_eqb)
 
 pub least_at-le-NONE : (w : ℕ) (ps : List (ℕ × ℕ)) → least_at w ps ≤ NONE
 least_at-le-NONE w [] = omega arith
@@ -39,8 +39,7 @@ pub least_at-reached : (w : ℕ) (ps : List (ℕ × ℕ)) → (least_at w ps ≡
 least_at-reached w [] = inl refl
 least_at-reached w (p ∷ ps) =
     let m : ℕ = least_at w ps in
-    let rest : (m ≡ NONE) ⊎ Contains (p ∷ ps) (w, m) =
-    elim (least_at-reached w ps) [ inl a ↦ inl a | inr b ↦ inr (behind p ps (w, m) b) ] in
+    let rest : (m ≡ NONE) ⊎ Contains (p ∷ ps) (w, m) = grind (arith, least_at-reached w ps, behind p ps (w, m)) in
     elim (cases_eq p.0 w) [
       | inl e ↦ rw (least_here w p ps e) (elim (cases_lt p.1 m) [
         | inl lt ↦ let q : min p.1 m ≡ p.1 = omega arith in rw q (inr (rw (← e) (front p ps)))
@@ -100,10 +99,7 @@ once_of w x (c ∷ cs) apart =
           let none : 0 < count_by (falls_from w x) cs → ⊥ = λ some_other.
           let r = count_of (falls_from w x) cs some_other in let its = from_is w x r.0 r.2 in
           let mine = from_is w x c t in pairs_first (Apart w) c cs apart r.0 r.1 mine.0 its.0 (mine.1 ∙ sym its.1) in
-          elim (cases_lt 0 (count_by (falls_from w x) cs)) [
-            | inl some_other ↦ absurd (none some_other)
-            | inr no_other ↦ omega (arith, count_by-yes (falls_from w x) c cs t)
-          ]
+          grind (arith, none, count_by-yes (falls_from w x) c cs t)
       | inr f ↦ omega (arith, count_by-no (falls_from w x) c cs f)
     ]
 
@@ -119,8 +115,7 @@ pub IsLegal-same : (xs ys : List Call) → SameCalls xs ys → IsLegal xs → Is
 IsLegal-same xs ys same l = λ w. let back : SameCalls ys xs = λ f. sym (same f) in record {
   under = λ c h. (l w).under c (same_in ys xs back c h);
   once = once_from w ys (λ x. omega (arith, same (λ c. cond (falls_from w x c) 1 0), once_of w x xs (l w).once));
-  linked = λ c h at. elim ((l w).linked c (same_in ys xs back c h) at)
-      [ inl a ↦ inl a | inr b ↦ inr (b.0, same_in xs ys same b.0 b.1, b.2, b.3) ];
+  linked = λ c h at. grind (arith, (l w).linked c (same_in ys xs back c h) at, same_in xs ys same);
 }
 
 -- some call fell to x
@@ -135,10 +130,10 @@ least_falls w xs l = let m : ℕ = least_at w (posts_of xs) in elim (least_at-re
   | inr h ↦
       let r = of_map (λ (c : Call). (c.word, c.number)) xs (w, m) h in let d : Call = r.0 in
       let at_w : d.word ≡ w = λ i. (r.2 i).0 in let is_m : d.number ≡ m = λ i. (r.2 i).1 in
-      elim (cases_lt d.number d.found) [
+      let top = least_at-le-NONE w (posts_of xs) in elim (cases_lt d.number d.found) [
         | inl lt ↦ inr (d, r.1, (at_w, lt), is_m)
         | inr ge ↦ elim (l.linked d r.1 at_w) [
-          | inl e ↦ let top = least_at-le-NONE w (posts_of xs) in inl (omega arith)
+          | inl e ↦ inl (omega arith)
           | inr f ↦ let low = least_at-below w f.0.number (posts_of xs) (post_in w xs f.0 f.1 f.2.0) in
               inr (f.0, f.1, f.2, omega (arith, f.3))
         ]
@@ -146,24 +141,18 @@ least_falls w xs l = let m : ℕ = least_at w (posts_of xs) in elim (least_at-re
 ]
 
 falls_more : (w y : ℕ) (c : Call) (xs : List Call) → (y ≡ NONE) ⊎ FellTo w xs y → (y ≡ NONE) ⊎ FellTo w (c ∷ xs) y
-falls_more w y c xs f = elim f [ inl e ↦ inl e | inr b ↦ inr (b.0, behind c xs b.0 b.1, b.2, b.3) ]
+falls_more w y c xs f = grind (arith, behind)
 
 -- a call that finds what the word holds
 pub IsLegal-post : (w n : ℕ) (xs : List Call) → n < NONE → IsLegal xs
     → IsLegal (call w (least_at w (posts_of xs)) n ∷ xs)
 IsLegal-post w n xs lt l = λ v. let m : ℕ = least_at w (posts_of xs) in let c : Call = call w m n in record {
-  under = λ d h at. elim (front_or_behind c xs d h) [
-    | inl e ↦ omega (arith, ap (λ (f : Call). f.number) e)
-    | inr k ↦ (l v).under d k at
-  ];
+  under = λ d h at. grind (arith, front_or_behind c xs d h, (l v).under d);
   once = pairs_cons (Apart v) c xs
       (λ d k mine its e.
       let low = least_at-below w d.number (posts_of xs) (post_in w xs d k (its.0 ∙ sym mine.0)) in
       absurd (omega (arith, e, its.1)))
       (l v).once;
-  linked = λ d h at. elim (front_or_behind c xs d h) [
-    | inl e ↦ let is_v : w ≡ v = ap (λ (f : Call). f.word) e ∙ at in
-        rw (← e, ← is_v) (falls_more w m c xs (least_falls w xs (l w)))
-    | inr k ↦ falls_more v d.found c xs ((l v).linked d k at)
-  ];
+  linked = λ d h at.
+      grind (arith, front_or_behind c xs d h, least_falls w xs (l w), falls_more v d.found c xs, (l v).linked d);
 }

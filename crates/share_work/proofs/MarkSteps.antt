@@ -1,7 +1,7 @@
 -- Each kind of step keeps the rule of the marks.
 use Rattle.share_work.proofs.Sums.{only_one, sum_by-map, none_in, front, behind, front_or_behind, in_map, of_map, in_flat, of_flat, pairs_both, flat_set, flat_split, flat_join, EachAt, each_set, each_split, sum_by-at}
 use Rattle.std.proofs.lemmas.Grind.{common_steps}
-use Rattle.std.proofs.Common.{◌≡◌, ℕ, ◌+◌, ◌-◌, ◌^◌, ◌<◌, ◌≤◌, ◌⊎◌, inl, inr, Bool, true, false, cond, ltb, List, [], ◌∷◌, ◌++◌, length, set, slice_index, sym, refl, ap, ◌∙◌, subst, arith, min, get_or-set_same}
+use Rattle.std.proofs.Common.{◌≡◌, ℕ, ◌+◌, ◌-◌, ◌^◌, ◌<◌, ◌≤◌, ◌⊎◌, inl, inr, ⊎_elim, Bool, true, false, cond, ltb, List, [], ◌∷◌, ◌++◌, length, set, slice_index, sym, refl, ap, ◌∙◌, subst, arith, min, get_or-set_same}
 use Rattle.std.specs.Prelude.{Option, None, Some as just, Contains}
 use Rattle.std.specs.List.{sum_by}
 use Rattle.std.proofs.lemmas.Bool.{lt-ltb}
@@ -89,10 +89,9 @@ record Falls (words words' : List ℕ) (os os' : List (ℕ × ℕ)) : Type 0 whe
 
 settled : (words words' : List ℕ) (os os' : List (ℕ × ℕ)) → Falls words words' os os' → (g y z : ℕ) → y ≤ z
     → Settled words os g y → Settled words' os' g z
-settled words words' os os' f g y z le s = elim s [
-  | inl at_most ↦ inl (omega (arith, f.fall g, at_most, le))
-  | inr o ↦ let low = o.2 in elim (f.still g o.0 o.1) [ inl h ↦ inr (o.0, h, omega arith) | inr h ↦ inl (omega arith) ]
-]
+settled words words' os os' f g y z le (inl at_most) = inl (omega (arith, f.fall g, at_most, le))
+settled words words' os os' f g y z le (inr (x, owed, low)) =
+    elim (f.still g x owed) [ inl h ↦ inr (x, h, omega arith) | inr h ↦ inl (omega arith) ]
 
 module _ (count : ℕ) (list : ℕ → List ℕ) (words : List ℕ) (views : List MarkView)
     (k : IsMarked count list words views) (words' : List ℕ) (views' : List MarkView) where
@@ -113,18 +112,9 @@ module _ (count : ℕ) (list : ℕ → List ℕ) (words : List ℕ) (views : Lis
       → IsMarked count list words' views'
   IsMarked-next kept empty f = record {
     kept = kept;
-    posted = λ g x h. elim (f.posts (g, x) h) [
-      | inl m ↦ m
-      | inr o ↦ marked_more list (all_marks views) (all_marks views') f.more g x (k.posted g x o)
-    ];
-    owed = λ g x h. elim (f.owes (g, x) h) [
-      | inl m ↦ m
-      | inr o ↦ marked_more list (all_marks views) (all_marks views') f.more g x (k.owed g x o)
-    ];
-    marks = λ s x h. elim (f.marks s x h) [
-      | inl m ↦ m
-      | inr o ↦ let t = k.marks s x o in (t.0, t.1, omega (arith, f.falls.fall s, t.2))
-    ];
+    posted = λ g x h. ⊎_elim (λ m. m) (λ o. marked_more list _ _ f.more g x (k.posted g x o)) (f.posts (g, x) h);
+    owed = λ g x h. ⊎_elim (λ m. m) (λ o. marked_more list _ _ f.more g x (k.owed g x o)) (f.owes (g, x) h);
+    marks = λ s x h. grind (arith, f.marks s x h, k.marks s x, f.falls.fall s);
     spread = λ s g in_s reach less. elim (f.fell s g in_s reach) [
       | inl d ↦ d
       | inr e ↦ settled _ _ _ _ f.falls g _ _ (omega (arith, e)) (k.spread s g in_s reach (omega (arith, e, less)))
@@ -151,10 +141,7 @@ module _ (count : ℕ) (list : ℕ → List ℕ) (words : List ℕ) (views : Lis
       (posts_same (all_calls us) (c ∷ all_calls old) (λ f.
       let a = flat_set f (λ (u : View). u.calls) old id v.least (at_view views id v at) (with_call v.least c) in
       omega (arith, sum_by_push f v.least.calls c, sum_by-cons f c (all_calls old))) p
-      (rw (map-set (λ (u : MarkView). u.least) views id w, is) at h))) [
-        | inl e ↦ inl (subst (Contains ps) e mine)
-        | inr o ↦ inr o
-      ]
+      (rw (map-set (λ (u : MarkView). u.least) views id w, is) at h))) [ inl e ↦ inl (rw e at mine) | inr o ↦ inr o ]
 
   pub IsMarked-root : ((r : ℕ) → r < count → Contains (list r) r) → v.debt ≡ None → (r n : ℕ) → r < count → n < NONE
       → IsMarked count list (set words (r + 1) (min (slice_index words (r + 1)) n))
@@ -186,12 +173,8 @@ module _ (count : ℕ) (list : ℕ → List ℕ) (words : List ℕ) (views : Lis
           | inr o ↦ let t = owed_new list r n (ltb n m) p.0 p.1 o in
               inl (subst (λ b. Contains (marked_posts list (all_marks views')) (p.0, b)) t.0 (posts p.0 t.1))
         ];
-        marks = λ s x h. elim (front_or_behind (r, n) ms (s, x) (mark.0 (s, x) h)) [
-          | inl e ↦ inl (subst (λ (p : ℕ × ℕ). (p.0 < count) × (p.1 < NONE)
-              × (slice_index (after words r n room) (p.0 + 1) ≤ p.1)) e
-              (inside, lt, omega (arith, word_here words r n room)))
-          | inr o ↦ inr o
-        ];
+        marks = λ s x h. elim (front_or_behind (r, n) ms (s, x) (mark.0 (s, x) h))
+            [ inl e ↦ inl (grind (arith, word_here words r n room)) | inr o ↦ inr o ];
         fell = λ s g in_s reach. elim (word_cases words r n room s) [
           | inl e ↦
               let there : Contains ow (g, n) = rw (lt-ltb n m e.1)
@@ -219,11 +202,8 @@ module _ (count : ℕ) (list : ℕ → List ℕ) (words : List ℕ) (views : Lis
       let of = marked_to list ms g n was in let root : ℕ = of.0 in let its = k.marks root n of.1 in
       let falls : Falls words (after words g n room) os os' = record {
         fall = word_falls words g n room;
-        still = λ a x o. elim (front_or_behind (g, n) os' (a, x) (owe.1 (a, x) o)) [
-          | inl q ↦ inr (subst (λ (p : ℕ × ℕ). slice_index (after words g n room) (p.0 + 1) ≤ p.1) q
-              (omega (arith, word_here words g n room)))
-          | inr p ↦ inl p
-        ];
+        still = λ a x o. elim (front_or_behind (g, n) os' (a, x) (owe.1 (a, x) o))
+            [ inl q ↦ inr (grind (arith, word_here words g n room)) | inr p ↦ inl p ];
       } in
       IsMarked-next count list words views k (after words g n room) views' (kept_post w g n inside its.1 refl)
       (each_set Empty views id w (λ (z : w.least.parts ≡ 0). absurd (omega arith)) k.empty)
@@ -266,8 +246,8 @@ module _ (count : ℕ) (list : ℕ → List ℕ) (words : List ℕ) (views : Lis
     IsMarked-split j pos lt =
         let l : MarkView = mark_left j v in let r : MarkView = mark_right j v in
         let old : List View = all_views views in
-        IsMarked-views (set views id l ++ r ∷ []) (set old id l.least ++ r.least ∷ []) (simp (map-append, map-set))
-        (IsKept-split count words old id v.least (at_view views id v at) some_part k.kept j pos lt)
+        IsMarked-views _ (set old id l.least ++ r.least ∷ []) (simp (map-append, map-set))
+        (IsKept-split _ _ _ _ _ (at_view views id v at) some_part k.kept j pos lt)
         (calls_split old id v.least (at_view views id v at) j)
         (λ h. let e = flat_split h (λ (u : MarkView). u.marks) views id v at l r in omega arith)
         (λ h. let a = flat_split h (owed_of list) views id v at l r in
@@ -301,26 +281,18 @@ module _ (count : ℕ) (list : ℕ → List ℕ) (slots id : ℕ) (v : MarkView)
   pub root_allows : ((r : ℕ) → r < count → Contains (list r) r) → v.debt ≡ None → (r n : ℕ) → r < count → n < NONE
       → Allows (mark_holds count list) slots id (v, cs) (r + 1) (λ x. min x n)
       (λ found after. (found ≤ known (r + 1 - 1) v.least) × (after ≡ (with_root (r + 1 - 1) found n v, cs)))
-  root_allows refl_ none r n inside lt s k homes at small = let e = back r in (
-    with_root (r + 1 - 1) (slice_index s.words (r + 1)) n v,
-    keeps,
-    tt,
-    rw e (IsMarked-root count list s.words s.views id v at pos k refl_ none r n inside lt),
-    (rw e (held-le-known count s.words _ id v.least (at_view s.views id v at) pos k.kept r inside), refl),
-  )
+  root_allows refl_ none r n inside lt s k homes at small =
+      let e = back r in let now = IsMarked-root _ _ _ _ _ _ at pos k refl_ none r n inside lt in
+      let low = held-le-known _ _ _ _ _ (at_view s.views id v at) pos k.kept r inside in
+      (_, keeps, tt, rw e now, (rw e low, refl))
 
   pub paid_allows : ((r g h : ℕ) → r < count → Contains (list r) g → Contains (list g) h → Contains (list r) h)
       → (last : Bool) (g n : ℕ) (rest : List (ℕ × ℕ)) → owed_of list v ≡ (g, n) ∷ rest
       → owed_by list (next_debt last v.debt) ≡ rest → g < count
       → Allows (mark_holds count list) slots id (v, cs) (g + 1) (λ x. min x n)
       (λ found after. after ≡ (with_paid last (g + 1 - 1) found n v, cs))
-  paid_allows trans last g n rest is rest_is inside s k homes at small = let e = back g in (
-    with_paid last (g + 1 - 1) (slice_index s.words (g + 1)) n v,
-    keeps,
-    tt,
-    rw e (IsMarked-paid count list s.words s.views id v at pos k trans last g n rest is rest_is inside),
-    refl,
-  )
+  paid_allows trans last g n rest is rest_is inside s k homes at small =
+      (_, keeps, tt, rw (back g) (IsMarked-paid _ _ _ _ _ _ at pos k trans last g n rest is rest_is inside), refl)
 
 module _ (count : ℕ) (list : ℕ → List ℕ) (slots id : ℕ) (v : MarkView) (cs : List (ℕ × Unit {0})) where
   pub mark_count_allows : Allows (mark_holds count list) slots id (v, cs) 0 (λ x. x)
@@ -356,9 +328,7 @@ mark_closes count list id v ws all none words views k at ws_is =
           let high : slice_index words (w + 1) ≤ least_at w ps = least_at-above w _ ps
           (omega (arith, least_at-le-NONE w qs)) (λ x h.
           let t = marked_to list (all_marks views) w x h in let m = k.marks t.0 x t.1 in
-          elim (k.spread t.0 w m.0 t.2 (omega (arith, m.1, m.2))) [
-            | inl le ↦ omega (arith, m.2, le)
-            | inr o ↦ let bad = rw (owed, none) at o.1 in absurd (none_in (w, o.0) bad)
-          ]) in
+          elim (k.spread t.0 w m.0 t.2 (omega (arith, m.1, m.2)))
+          [ inl le ↦ omega (arith, m.2, le) | inr o ↦ absurd (none_in (w, o.0) (rw (owed, none) at o.1)) ]) in
           rw (← ws_is, ← marks) (omega arith);
     }

@@ -1,16 +1,15 @@
 -- How far a mark has come with what it owes.
 use Rattle.std.proofs.lemmas.Grind.{common_steps}
-use Rattle.std.proofs.Common.{◌≡◌, ℕ, zero, suc, ◌+◌, ◌<◌, ◌≤◌, Bool, cond, Option, List, [], ◌∷◌, ◌++◌, take, drop, length, slice_get, Some, None, ◌==◌, ap, ◌∙◌, arith, append_assoc, add-one}
+use Rattle.std.proofs.Common.{◌≡◌, ℕ, zero, suc, ◌+◌, ◌<◌, ◌≤◌, Bool, cond, List, [], ◌∷◌, ◌++◌, take, drop, length, slice_get, Some, None, ◌==◌, arith, append_assoc, add-one}
 use Rattle.std.specs.Prelude.{Contains}
 use Rattle.std.proofs.lemmas.Bool.{eq-eqb}
 use Rattle.std.proofs.lemmas.Option.{slice_get_cases}
-use Rattle.std.proofs.lemmas.List.{drop_all, take_all}
+use Rattle.std.proofs.lemmas.List.{map-append, drop_all, take_all}
 use Rattle.share_work.specs.declared.views.Call.{Call}
 use Rattle.share_work.specs.declared.mark_view.MarkView.{MarkView}
 use Rattle.share_work.specs.Views.{call, posts_of}
 use Rattle.share_work.specs.Marks.{at_each, owed_by, owed_of}
 use Rattle.share_work.specs.Steps.{make_debt, debt_at, next_debt, with_calls}
-use Rattle.share_work.specs.declared.mark_view.Debt.{Debt}
 use Rattle.share_work.proofs.Sums.{behind}
 
 -- the first k files have their posts, and the rest is owed
@@ -30,15 +29,6 @@ get_some (x ∷ xs) (suc k) g e = grind (arith, behind, get_some xs k g e)
 pub none_past : {X : Type 0} (xs : List X) (k : ℕ) → slice_get xs k ≡ None → length xs ≤ k
 none_past xs k e = grind (arith, slice_get_cases)
 
-pub get_none : (files : List ℕ) (k : ℕ) → slice_get files k ≡ None → (take k files ≡ files) × (drop k files ≡ [])
-get_none files k e = let past = none_past files k e in (take_all k files past, drop_all k files past)
-
-pub posts-append : (xs ys : List Call) → posts_of (xs ++ ys) ≡ posts_of xs ++ posts_of ys
-posts-append xs ys = grind (arith, common_steps)
-
-each-append : (n : ℕ) (xs ys : List ℕ) → at_each n (xs ++ ys) ≡ at_each n xs ++ at_each n ys
-each-append n xs ys = grind (arith, common_steps)
-
 pub paying_none : (v : MarkView) (root n g : ℕ) (files : List ℕ) → Contains files g
     → v.debt ≡ Some (make_debt root n 0) → IsPaying v v root n 0 files
 paying_none v root n g files some_file e = grind (arith, common_steps)
@@ -55,7 +45,7 @@ paying_more v u w root n k files g found p e is =
     let s = get_some files k g e in let c : Call = call g found n in
     record {
       later = p.later ++ c ∷ [];
-      posted = grind (arith, add-one, each-append, posts-append);
+      posted = grind (arith, add-one, map-append);
       view = grind (arith, append_assoc);
       position = omega (arith, s.0);
     }
@@ -64,8 +54,7 @@ paying_more v u w root n k files g found p e is =
 pub owed_here : (list : ℕ → List ℕ) (v : MarkView) (root n k g : ℕ) → v.debt ≡ Some (make_debt root n k)
     → slice_get (list root) k ≡ Some g
     → owed_of list v ≡ (g, n) ∷ at_each n (drop (suc k) (list root))
-owed_here list v root n k g d e = ap (λ (y : Option Debt). owed_by list y) d
-    ∙ ap (λ (l : List ℕ). at_each n l) (get_some (list root) k g e).2
+owed_here list v root n k g d e = rw (d, (get_some (list root) k g e).2)
 
 pub owed_next : (list : ℕ → List ℕ) (v : MarkView) (root n k g : ℕ) (last : Bool) → v.debt ≡ Some (make_debt root n k)
     → slice_get (list root) k ≡ Some g
@@ -76,4 +65,4 @@ owed_next list v root n k g last d e is = grind (arith, common_steps)
 pub paying_all : (v u : MarkView) (root n k : ℕ) (files : List ℕ) → IsPaying v u root n k files
     → slice_get files k ≡ None
     → (later : List Call) × (posts_of later ≡ at_each n files) × (u ≡ with_calls v later None)
-paying_all v u root n k files p e = grind (arith, cond, eq-eqb, get_none, none_past)
+paying_all v u root n k files p e = grind (arith, cond, eq-eqb, drop_all, none_past, take_all)

@@ -27,15 +27,12 @@ pub range_piece : {X : Type 0} (xs : List X) (a c : ℕ)
     → slice_range xs a (a + min c (length xs - a)) ≡ take c (drop a xs)
 range_piece xs a c = grind (arith, common_steps)
 
-pub rising : (w k n W c : ℕ) → n ≤ k → (w + n * W) * c ≤ (w + k * W) * c
-rising w k n W c le = grind arith
-
 -- what is found in two lists together is found in one of them
 pub found_in : {V : Type 0} (xs ys : List V) (k : ℕ) (v : V) → slice_get (xs ++ ys) k ≡ Some v
     → (slice_get xs k ≡ Some v) ⊎ ((j : ℕ) × (k ≡ length xs + j) × (slice_get ys j ≡ Some v))
 found_in [] ys k v e = inr (k, omega arith, e)
 found_in (x ∷ xs) ys zero v e = inl e
-found_in (x ∷ xs) ys (suc k) v e = elim (found_in xs ys k v e) [ inl h ↦ inl h | inr h ↦ inr (h.0, grind arith, h.2) ]
+found_in (x ∷ xs) ys (suc k) v e = grind (arith, found_in xs ys k v)
 
 module _ {T O V : Type 0} (gives : ℕ → T → O → Type 0) (outs_of : V → List O) (workers cut : ℕ) (items : List T) where
   -- a row without its first piece
@@ -44,8 +41,7 @@ module _ {T O V : Type 0} (gives : ℕ → T → O → Type 0) (outs_of : V → 
   row_tail w y ys r = record {
     pieces = λ k v e. let same : w + workers + k * workers ≡ w + suc k * workers = grind arith in
         rw same (r.pieces (suc k) v e);
-    whole = λ k inside. let same : (w + suc k * workers) * cut ≡ (w + workers + k * workers) * cut = grind arith in
-        let all = r.whole (suc k) (rw same inside) in omega arith;
+    whole = λ k inside. grind (arith, r.whole (suc k));
   }
 
 module _ {T O : Type 0} (gives : ℕ → T → O → Type 0) where
@@ -74,8 +70,7 @@ module _ {T O V R : Type 0} (gives : ℕ → T → O → Type 0) (outs_of : V �
     len = let x = a.len in let y = b.len in omega (arith, length-append low high);
     each = λ j r e. elim (found_in low high j r e) [
       | inl h ↦ a.each j r h
-      | inr h ↦ let x = a.len in let y = h.1 in let same : from + j ≡ up + h.0 = omega arith in
-          rw same (b.each h.0 r h.2)
+      | inr h ↦ let same : from + j ≡ up + h.0 = omega (arith, h.1, a.len) in rw same (b.each h.0 r h.2)
     ];
   }
 
@@ -102,10 +97,8 @@ module _ {T O V R : Type 0} (gives : ℕ → T → O → Type 0) (outs_of : V �
       → GivesRows gives outs_of parts_of workers cut items from n rows
       → GivesRows gives outs_of parts_of workers cut items from (n + 1) (rows ++ r ∷ [])
   rows_idle from n rows r none past h =
-      let idle : GivesRow gives outs_of workers cut items (from + n) [] = record {
-        pieces = λ k v e. let bad : None ≡ Some v = e in absurd (search rules);
-        whole = grind (arith, mul-le-mul_right, rising, zero-mul);
-      } in
+      let idle : GivesRow gives outs_of workers cut items (from + n) [] =
+      grind (arith, mul-le-mul_right, zero-mul) in
       rows_joined from n (from + n) 1 rows (r ∷ []) refl h (one_row (from + n) r (rw none idle))
 
 module _ {T O : Type 0} (gives : ℕ → T → O → Type 0) (cut : ℕ) (items : List T) where
@@ -144,8 +137,7 @@ module _ {T O V S : Type 0} (gives : ℕ → T → O → Type 0) (outs_of : V �
     within = λ x n h. grind (arith, r.within x n, inner x n h);
     gained = λ x n k below h. elim (cases_lt k (length row)) [
       | inl lt ↦ keeps x n (r.gained x n k lt h)
-      | inr le ↦ let len = length-append row (y ∷ []) in let e : k ≡ length row = grind arith in
-          outer x n (rw (is, C_is, r.at, ← e) h)
+      | inr le ↦ let e : k ≡ length row = grind (arith, length-append) in outer x n (rw (is, C_is, r.at, ← e) h)
     ];
   }
 
@@ -170,16 +162,10 @@ module _ {S T : Type 0} (holds : S → ℕ → ℕ → Type 0) (adds : ℕ → T
       → SeatsGain holds adds workers cut items from (low ++ high) (low' ++ high')
   gains_joined from up low high low' high' at a b = record {
     len = grind (arith, length-append);
-    each = λ j s s' e e'. elim (found_in low high j s e) [
-      | inl h ↦ elim (found_in low' high' j s' e') [
-        | inl h' ↦ a.each j s s' h h'
-        | inr h' ↦ let w = slice_get_within low j s h in let x = a.len in let y = h'.1 in absurd (omega arith)
-      ]
-      | inr h ↦ elim (found_in low' high' j s' e') [
-        | inl h' ↦ let w = slice_get_within low' j s' h' in let x = a.len in let y = h.1 in absurd (omega arith)
-        | inr h' ↦ let x = a.len in let y = h.1 in let y' = h'.1 in let same : h'.0 ≡ h.0 = omega arith in
-            let position : from + j ≡ up + h.0 = omega arith in rw position (b.each h.0 s s' h.2 (rw same at h'.2))
-      ]
+    each = λ j s s' e e'. let new = found_in low' high' j s' e' in elim (found_in low high j s e) [
+      | inl h ↦ a.each j s s' h (grind (arith, new, slice_get_within low j s h, a.len))
+      | inr h ↦ let same : from + j ≡ up + h.0 = omega (arith, h.1) in
+          rw same (b.each h.0 s s' h.2 (grind (arith, new, slice_get_within low' j s', a.len, h.1)))
     ];
   }
 
@@ -189,7 +175,7 @@ module _ {S T : Type 0} (holds : S → ℕ → ℕ → Type 0) (adds : ℕ → T
   haves_joined from up low high low' high' at len a b = record {
     each = λ j s e. elim (found_in low' high' j s e) [
       | inl h ↦ a.each j s h
-      | inr h ↦ let y = h.1 in let position : from + j ≡ up + h.0 = omega arith in rw position (b.each h.0 s h.2)
+      | inr h ↦ let same : from + j ≡ up + h.0 = omega (arith, h.1) in rw same (b.each h.0 s h.2)
     ];
   }
 
@@ -232,12 +218,15 @@ get_drop zero xs o = ap (λ k. slice_get xs k) (let e : o ≡ 0 + o = omega arit
 get_drop (suc p) [] o = refl
 get_drop (suc p) (x ∷ xs) o = grind (arith, slice_get, get_drop p xs o)
 
+pub get_take : {X : Type 0} (n : ℕ) (xs : List X) (o : ℕ) → o < n → slice_get (take n xs) o ≡ slice_get xs o
+get_take zero xs o h = absurd (omega arith)
+get_take (suc n) [] o h = refl
+get_take (suc n) (x ∷ xs) zero h = refl
+get_take (suc n) (x ∷ xs) (suc o) h = get_take n xs o (omega arith)
+
 pub take_get : {X : Type 0} (n : ℕ) (xs : List X) (o : ℕ) (t : X) → slice_get (take n xs) o ≡ Some t
     → slice_get xs o ≡ Some t
-take_get zero xs o t e = let bad : None ≡ Some t = e in absurd (search rules)
-take_get (suc n) [] o t e = e
-take_get (suc n) (x ∷ xs) zero t e = e
-take_get (suc n) (x ∷ xs) (suc o) t e = take_get n xs o t e
+take_get n xs o t e = grind (arith, common_steps, slice_get_within (take n xs) o t e, get_take n xs o)
 
 -- what is taken of all items is taken of a piece
 pub takes_part : {T : Type 0} (takes : ℕ → T → Type 0) (items part : List T) (first c : ℕ)

@@ -1,5 +1,5 @@
 -- The calls at a word have an order in which each found the least number posted before it.
-use Rattle.std.proofs.Common.{◌≡◌, ℕ, zero, suc, ◌<◌, ◌≤◌, ◌⊎◌, inl, inr, ⊎_elim, Bool, true, ◌==◌, List, [], ◌∷◌, length, get_or, take, filter, ap, arith, min}
+use Rattle.std.proofs.Common.{◌≡◌, ℕ, zero, suc, ◌<◌, ◌≤◌, ◌⊎◌, inl, inr, ⊎_elim, Bool, true, ◌==◌, List, [], ◌∷◌, length, get_or, take, filter, arith, min}
 use Rattle.std.specs.Prelude.{AllPairs, Contains}
 use Rattle.std.specs.List.Sorted.{IsPermutation}
 use Rattle.std.proofs.lemmas.Bool.{eqb-true, eq-eqb}
@@ -26,19 +26,13 @@ abbrev Finds : ℕ → List Call → Type 0
 Finds m [] = Unit {0}
 Finds m (c ∷ cs) = (c.found ≡ m) × Finds (min m c.number) cs
 
-no_more : (c d : Call) → MayFollow c d → d.found ≤ c.found
-no_more c d f = grind arith
-
 module _ (w m : ℕ) (c : Call) (cs : List Call) (pairs : AllPairs MayFollow (c ∷ cs))
     (linked : LinkedFrom w m (c ∷ cs)) where
   -- the first call found m
   first_finds : c.found ≡ m
-  first_finds = ⊎_elim (λ e. e)
-      (λ (f : FellTo w (c ∷ cs) c.found). ⊎_elim
-      (λ (e : c ≡ f.0). absurd (omega (arith, ap (λ (d : Call). d.found) e, f.2.1, f.3)))
-      (λ k. absurd (omega (arith, no_more c f.0 (pairs_first MayFollow c cs pairs f.0 k), f.2.1, f.3)))
-      (front_or_behind c cs f.0 f.1))
-      (linked c (front c cs))
+  first_finds = ⊎_elim (λ e. e) (λ (f : FellTo w (c ∷ cs) c.found). let far : f.0.found ≤ c.found =
+      grind (arith, front_or_behind c cs f.0 f.1, pairs_first MayFollow c cs pairs f.0) in
+      absurd (omega (arith, f.2.1, f.3))) (linked c (front c cs))
 
   next_linked : LinkedFrom w (min m c.number) cs
   next_linked d h = grind (
@@ -53,8 +47,7 @@ finds_least : (w m : ℕ) (ys : List Call) → AllPairs MayFollow ys → LinkedF
 finds_least w m [] pairs linked = tt
 finds_least w m (c ∷ cs) pairs linked = (
   first_finds w m c cs pairs linked,
-  finds_least w (min m c.number) cs (pairs_rest MayFollow c cs pairs)
-      (next_linked w m c cs pairs linked),
+  finds_least w (min m c.number) cs (pairs_rest MayFollow c cs pairs) (next_linked w m c cs pairs linked),
 )
 
 each_finds : (w m : ℕ) (ys : List Call) → m ≤ NONE → ((c : Call) → Contains ys c → c.word ≡ w) → Finds m ys
@@ -83,13 +76,6 @@ replays w calls l ys o =
 
 -- ---- there is such an order
 
-follows_on : (c d e : Call) → MayFollow c d → MayFollow d e → MayFollow c e
-follows_on c d e f g = grind arith
-
--- of two calls that are apart one may follow the other
-either : (w : ℕ) (c d : Call) → c.word ≡ w → d.word ≡ w → Apart w c d → MayFollow c d ⊎ MayFollow d c
-either w c d cw dw apart = grind arith
-
 -- the list in an order
 abbrev Ordered : List Call → Type 0
 Ordered xs = (ys : List Call) × IsPermutation xs ys × AllPairs MayFollow ys
@@ -100,10 +86,8 @@ placed c [] f pairs =
     (c ∷ [], IsPermutation-refl (c ∷ []), pairs_cons MayFollow c [] (λ d h. absurd (none_in d h)) pairs)
 placed c (d ∷ ds) f pairs = elim (f d (front d ds)) [
   | inl a ↦
-      let all = pairs_cons MayFollow c (d ∷ ds) (λ e h. elim (front_or_behind d ds e h) [
-        | inl s ↦ rw (← s) a
-        | inr k ↦ follows_on c d e a (pairs_first MayFollow d ds pairs e k)
-      ]) pairs in
+      let all = pairs_cons MayFollow c (d ∷ ds)
+      (λ e h. grind (arith, a, front_or_behind d ds e h, pairs_first MayFollow d ds pairs e)) pairs in
       (c ∷ d ∷ ds, IsPermutation-refl (c ∷ d ∷ ds), all)
   | inr b ↦
       let r = placed c ds (λ e h. f e (behind d ds e h)) (pairs_rest MayFollow d ds pairs) in
@@ -111,10 +95,8 @@ placed c (d ∷ ds) f pairs = elim (f d (front d ds)) [
       (IsPermutation-cons d (c ∷ ds) r.0 r.1) in
       let back = IsPermutation-sym (c ∷ ds) r.0 r.1 in
       let all = pairs_cons MayFollow d r.0
-      (λ e h. elim (front_or_behind c ds e (Contains-permutation r.0 (c ∷ ds) e back h)) [
-        | inl s ↦ rw (← s) b
-        | inr k ↦ pairs_first MayFollow d ds pairs e k
-      ]) r.2 in
+      (λ e h. let was = front_or_behind c ds e (Contains-permutation r.0 (c ∷ ds) e back h) in
+      grind (arith, b, was, pairs_first MayFollow d ds pairs e)) r.2 in
       (d ∷ r.0, moved, all)
 ]
 
@@ -123,7 +105,7 @@ ordered w [] at apart = ([], IsPermutation-refl [], λ i j d a b. absurd (omega 
 ordered w (c ∷ cs) at apart =
     let r = ordered w cs (λ d h. at d (behind c cs d h)) (pairs_rest (Apart w) c cs apart) in
     let s = placed c r.0 (λ d h. let k = Contains-permutation r.0 cs d (IsPermutation-sym cs r.0 r.1) h in
-    either w c d (at c (front c cs)) (at d (behind c cs d k)) (pairs_first (Apart w) c cs apart d k)) r.2 in
+    grind (arith, at c (front c cs), at d (behind c cs d k), pairs_first (Apart w) c cs apart d k)) r.2 in
     (s.0, IsPermutation-trans (c ∷ cs) (c ∷ r.0) s.0 (IsPermutation-cons c cs r.0 r.1) s.1, s.2)
 
 pub calls_replay : CallsReplay

@@ -24,34 +24,27 @@ module _ (views : List View) (id : ℕ) (v : View) (at : get_elem? views id ≡ 
   pairs_posted : IsLegal (all_calls views) → IsPosted (all_told views) (all_calls views)
       → IsPosted (pairs_of v) (all_calls views)
   pairs_posted l t w x h =
-      let calls : List Call = all_calls views in
-      let in_all : (c : Call) → Contains v.calls c → Contains calls c =
-      λ c k. in_flat (λ (u : View). u.calls) views v c (at_in views id v at) k in
+      let calls : List Call = all_calls views in let here = at_in views id v at in
+      let in_all = λ (c : Call). in_flat (λ (u : View). u.calls) views v c here in
       elim (Contains-append_cases (finds_of v.calls ++ posts_of v.calls) v.told (w, x) h) [
         | inl k ↦ elim (Contains-append_cases (finds_of v.calls) (posts_of v.calls) (w, x) k) [
           | inl j ↦
               let r = of_map (λ (c : Call). (c.word, c.found)) v.calls (w, x) j in
-              let is : r.0.found ≡ x = λ i. (r.2 i).1 in
-              elim ((l w).linked r.0 (in_all r.0 r.1) (λ i. (r.2 i).0)) [
-                | inl a ↦ inl (omega (arith, a))
-                | inr b ↦ inr (rw (← is, ← b.3) (post_in w calls b.0 b.1 b.2.0))
-              ]
+              let is : r.0.found ≡ x = λ i. (r.2 i).1 in elim ((l w).linked r.0 (in_all r.0 r.1) (λ i. (r.2 i).0))
+              [ inl a ↦ inl (omega (arith, a)) | inr b ↦ inr (rw (← is, ← b.3) (post_in w calls b.0 b.1 b.2.0)) ]
           | inr j ↦
               let r = of_map (λ (c : Call). (c.word, c.number)) v.calls (w, x) j in
               let is : r.0.number ≡ x = λ i. (r.2 i).1 in
               inr (rw (← is) (post_in w calls r.0 (in_all r.0 r.1) (λ i. (r.2 i).0)))
         ]
-        | inr k ↦ t w x (in_flat (λ (u : View). u.told) views v (w, x) (at_in views id v at) k)
+        | inr k ↦ t w x (in_flat (λ (u : View). u.told) views v (w, x) here k)
       ]
 
   least-le-known : (w : ℕ) → IsLegal (all_calls views) → IsPosted (all_told views) (all_calls views)
       → least_at w (posts_of (all_calls views)) ≤ known w v
   least-le-known w l t =
       let ps : List (ℕ × ℕ) = posts_of (all_calls views) in let top = least_at-le-NONE w ps in
-      least_at-above w (least_at w ps) (pairs_of v) top (λ x h. elim (pairs_posted l t w x h) [
-        | inl e ↦ omega (arith, e)
-        | inr k ↦ least_at-below w x ps k
-      ])
+      least_at-above w _ (pairs_of v) top (λ x h. grind (arith, pairs_posted l t w x h, least_at-below w x ps))
 
   parts_set : (w : View) → sum_by (λ (u : View). u.parts) (set views id w) + v.parts ≡ sum_by (λ (u : View). u.parts)
       views + w.parts
@@ -119,11 +112,10 @@ module _ (count : ℕ) (words : List ℕ) (views : List View) (id : ℕ) (v : Vi
           least = λ u h. posted_word words w u n (posts_of xs) (omega (arith, k.size)) is_m (k.least u h)
               ∙ least_at-same u (c ∷ xs) ys same;
           legal = IsLegal-same (c ∷ xs) ys same now;
-          told = λ u x h. elim (k.told u x (pairs_in (all_told views') (all_told views)
-              (λ g. let e = flat_set g (λ (u : View). u.told) views id v at v' in omega arith) (u, x) h)) [
-                | inl e ↦ inl e
-                | inr p ↦ inr (posts_same (c ∷ xs) ys same (u, x) (behind (w, n) (posts_of xs) (u, x) p))
-              ];
+          told = λ u x h. ⊎_elim (λ e. inl e)
+              (λ p. inr (posts_same (c ∷ xs) ys same (u, x) (behind (w, n) (posts_of xs) (u, x) p)))
+              (k.told u x (pairs_in (all_told views') (all_told views)
+              (λ g. let e = flat_set g (λ (u : View). u.told) views id v at v' in omega arith) (u, x) h));
           parts = parts_kept v' refl;
           spent = spent_kept v' refl;
         }
@@ -149,12 +141,10 @@ module _ (count : ℕ) (words : List ℕ) (views : List View) (id : ℕ) (v : Vi
       let l : View = left_of j v in let r : View = right_of j v in let views' : List View = set views id l ++ r ∷ [] in
       let old : List (ℕ × ℕ) = all_told views in
       IsKept-views views' (calls_split views id v at j)
-      (λ u x h. elim (Contains-append_cases old (pairs_of v) (u, x) (pairs_in (all_told views') (old ++ pairs_of v)
+      (λ u x h. ⊎_elim (k.told u x) (pairs_posted views id v at k.legal k.told u x)
+      (Contains-append_cases old (pairs_of v) (u, x) (pairs_in (all_told views') (old ++ pairs_of v)
       (λ g. let a = flat_split g (λ (y : View). y.told) views id v at l r in
-      omega (arith, sum_by-append g old (pairs_of v))) (u, x) h)) [
-        | inl was ↦ k.told u x was
-        | inr new ↦ pairs_posted views id v at k.legal k.told u x new
-      ])
+      omega (arith, sum_by-append g old (pairs_of v))) (u, x) h)))
       (omega (arith, parts_set views id v at l, k.parts, sum_by_push (λ (u : View). u.parts) (set views id l) r))
       (each_split Spent views id l r (λ (z : l.parts ≡ 0). absurd (omega arith))
       (λ (z : r.parts ≡ 0). absurd (omega arith)) k.spent)
@@ -181,34 +171,26 @@ back w = omega arith
 pub one_table : {a b : SeatValue} {s t : TableValue} → a ≡ b → s ≡ t → b.table ≡ t.table → a.table ≡ s.table
 one_table seat self same = (λ i. (seat i).table) ∙ same ∙ (λ i. (sym self i).table)
 
-pub post_allows : (count slots id : ℕ) (v : View) (cs : List (ℕ × Unit {0})) (w n : ℕ) → 0 < v.parts
-    → w < count → n < NONE
-    → Allows (holds count) slots id (v, cs) (w + 1) (λ x. min x n)
-    (λ found after. (found ≤ known (w + 1 - 1) v) × (after ≡ (with_call v (call (w + 1 - 1) found n), cs)))
-post_allows count slots id v cs w n pos inside lt s k homes at small = let e = back w in (
-  with_call v (call (w + 1 - 1) (slice_index s.words (w + 1)) n),
-  keeps,
-  tt,
-  rw e (IsKept-post count s.words s.views id v at pos k w inside n lt),
-  (rw e (held-le-known count s.words s.views id v at pos k w inside), refl),
-)
+module _ (count slots id : ℕ) (v : View) (cs : List (ℕ × Unit {0})) where
+  pub post_allows : (w n : ℕ) → 0 < v.parts → w < count → n < NONE
+      → Allows (holds count) slots id (v, cs) (w + 1) (λ x. min x n)
+      (λ found after. (found ≤ known (w + 1 - 1) v) × (after ≡ (with_call v (call (w + 1 - 1) found n), cs)))
+  post_allows w n pos inside lt s k homes at small =
+      let e = back w in let now = IsKept-post _ _ _ _ _ at pos k w inside n lt in
+      let low = held-le-known _ _ _ _ _ at pos k w inside in (_, keeps, tt, rw e now, (rw e low, refl))
 
-pub look_allows : (count slots id : ℕ) (v : View) (cs : List (ℕ × Unit {0})) (w : ℕ) → 0 < v.parts → w < count
-    → Allows (holds count) slots id (v, cs) (w + 1) (λ x. x)
-    (λ found after. (found ≤ known (w + 1 - 1) v) × (after ≡ (with_told v (w + 1 - 1) found, cs)))
-look_allows count slots id v cs w pos inside s k homes at small = let e = back w in (
-  with_told v (w + 1 - 1) (slice_index s.words (w + 1)),
-  keeps,
-  tt,
-  rw (e, set-get_or s.words (w + 1) 0) (IsKept-look count s.words s.views id v at pos k w inside),
-  (rw e (held-le-known count s.words s.views id v at pos k w inside), refl),
-)
+  pub look_allows : (w : ℕ) → 0 < v.parts → w < count → Allows (holds count) slots id (v, cs) (w + 1) (λ x. x)
+      (λ found after. (found ≤ known (w + 1 - 1) v) × (after ≡ (with_told v (w + 1 - 1) found, cs)))
+  look_allows w pos inside s k homes at small =
+      let e = back w in let now = IsKept-look _ _ _ _ _ at pos k w inside in
+      let low = held-le-known _ _ _ _ _ at pos k w inside in
+      (_, keeps, tt, rw (e, set-get_or s.words (w + 1) 0) now, (rw e low, refl))
 
-pub count_allows : (count slots id : ℕ) (v : View) (cs : List (ℕ × Unit {0}))
-    → Allows (holds count) slots id (v, cs) 0 (λ x. x) (λ found after. (v.parts ≤ 2 ^ 32) × (after ≡ (v, cs)))
-count_allows count slots id v cs s k homes at small =
-    let part = sum_by-at (λ (u : View). u.parts) s.views id v at in let all = k.parts in
-    (v, keeps, tt, rw (set-get_or s.words 0 0, set_again s.views id v at) k, (omega arith, refl))
+  pub count_allows : Allows (holds count) slots id (v, cs) 0 (λ x. x)
+      (λ found after. (v.parts ≤ 2 ^ 32) × (after ≡ (v, cs)))
+  count_allows s k homes at small =
+      let part = sum_by-at (λ (u : View). u.parts) s.views id v at in let all = k.parts in
+      (v, keeps, tt, rw (set-get_or s.words 0 0, set_again s.views id v at) k, (omega arith, refl))
 
 -- the words of a table that was closed with the whole view
 pub record IsClosed (count : ℕ) (words : List ℕ) (v : View) : Type 0 where

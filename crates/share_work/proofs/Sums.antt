@@ -37,7 +37,7 @@ pairs_cons R x xs each pairs = AllPairs-cons R x xs (all_of (R x) xs each) pairs
 
 pub at_in : {A : Type 0} (xs : List A) (i : ℕ) (x : A) → get_elem? xs i ≡ some x → Contains xs x
 at_in [] i x e = absurd (some-ne-none x (sym e))
-at_in (y ∷ ys) zero x e = subst (Contains (y ∷ ys)) (some-injective y x e) (front y ys)
+at_in (y ∷ ys) zero x e = rw (some-injective y x e) (front x ys)
 at_in (y ∷ ys) (suc i) x e = behind y ys x (at_in ys i x e)
 
 pub in_map : {A B : Type 0} (f : A → B) (xs : List A) (x : A) → Contains xs x → Contains (map f xs) (f x)
@@ -46,10 +46,7 @@ in_map f xs x h = grind (arith, common_steps)
 pub of_map : {A B : Type 0} (f : A → B) (xs : List A) (y : B) → Contains (map f xs) y
     → (x : A) × Contains xs x × (f x ≡ y)
 of_map f [] y h = absurd (none_in y h)
-of_map f (x ∷ xs) y h = elim (front_or_behind (f x) (map f xs) y h) [
-  | inl e ↦ (x, front x xs, e)
-  | inr k ↦ let r = of_map f xs y k in (r.0, behind x xs r.0 r.1, r.2)
-]
+of_map f (x ∷ xs) y h = grind (arith, front_or_behind (f x) (map f xs) y h, of_map f xs y, front x xs, behind x xs)
 
 pub in_flat : {A B : Type 0} (f : A → List B) (xs : List A) (x : A) (y : B) → Contains xs x → Contains (f x) y
     → Contains (flat_map f xs) y
@@ -60,10 +57,8 @@ in_flat f (z ∷ zs) x y h k =
 pub of_flat : {A B : Type 0} (f : A → List B) (xs : List A) (y : B) → Contains (flat_map f xs) y
     → (x : A) × Contains xs x × Contains (f x) y
 of_flat f [] y h = absurd (none_in y h)
-of_flat f (x ∷ xs) y h = elim (Contains-append_cases (f x) (flat_map f xs) y h) [
-  | inl e ↦ (x, front x xs, e)
-  | inr k ↦ let r = of_flat f xs y k in (r.0, behind x xs r.0 r.1, r.2)
-]
+of_flat f (x ∷ xs) y h =
+    grind (arith, Contains-append_cases (f x) (flat_map f xs) y h, of_flat f xs y, front x xs, behind x xs)
 
 pub of_filter : {A : Type 0} (p : A → Bool) (xs : List A) (x : A) → Contains (filter p xs) x
     → Contains xs x × (p x ≡ true)
@@ -77,8 +72,7 @@ pub in_filter : {A : Type 0} (p : A → Bool) (xs : List A) (x : A) → Contains
 in_filter p [] x h t = absurd (none_in x h)
 in_filter p (y ∷ ys) x h t = elim (front_or_behind y ys x h) [
   | inl e ↦ rw (e, t) (front x (filter p ys))
-  | inr k ↦ let r = in_filter p ys x k t in
-      elim (cases_Bool (p y)) [ inl s ↦ rw s (behind y (filter p ys) x r) | inr f ↦ rw f r ]
+  | inr k ↦ grind (arith, cases_Bool (p y), behind y (filter p ys) x, in_filter p ys x k t)
 ]
 
 -- ---- sums and counts
@@ -111,18 +105,12 @@ module _ {V A : Type 0} (h : A → ℕ) (f : V → List A) (views : List V) (id 
 
   pub flat_split : (r : V) → sum_by h (flat_map f (set views id w ++ r ∷ [])) + sum_by h (f v)
       ≡ sum_by h (flat_map f views) + sum_by h (f w) + sum_by h (f r)
-  flat_split r =
-      let a = flat_set in let b = sum_by-flat_map h f (set views id w ++ r ∷ []) in
-      let c = sum_by-flat_map h f (set views id w) in
-      omega (arith, sum_by_push (λ u. sum_by h (f u)) (set views id w) r)
+  flat_split r = grind (arith, common_steps, flat_set, sum_by-flat_map, sum_by_push)
 
   pub flat_join : (other : ℕ) (u s : V) → get_elem? (set views id w) other ≡ some u
       → sum_by h (flat_map f (set (set views id w) other s)) + sum_by h (f v) + sum_by h (f u)
       ≡ sum_by h (flat_map f views) + sum_by h (f w) + sum_by h (f s)
-  flat_join other u s at' =
-      let a = flat_set in let b = sum_by-flat_map h f (set views id w) in
-      let c = sum_by-flat_map h f (set (set views id w) other s) in
-      omega (arith, sum_by-at_set (λ x. sum_by h (f x)) (set views id w) other u s at')
+  flat_join other u s at' = grind (arith, common_steps, flat_set, sum_by-at_set, sum_by-flat_map)
 
 -- what holds of each view, where one is set and one is pushed
 module _ {V : Type 0} (P : V → Type 0) where
@@ -133,10 +121,7 @@ module _ {V : Type 0} (P : V → Type 0) where
   each_set views id w mine old j u e = grind (arith, at_set, get_elem?, some)
 
   pub each_split : (views : List V) (id : ℕ) (w r : V) → P w → P r → EachAt views → EachAt (set views id w ++ r ∷ [])
-  each_split views id w r mine new old j u e = elim (at_snoc (set views id w) r u j e) [
-    | inl x ↦ each_set views id w mine old j u x
-    | inr x ↦ subst P x new
-  ]
+  each_split views id w r mine new old j u e = grind (arith, common_steps, at_snoc, each_set)
 
 -- where one view has all the parts, and a view without parts has no items, all items are that view's
 module _ {V A : Type 0} (parts : V → ℕ) (items : V → List A) where
@@ -151,12 +136,9 @@ module _ {V A : Type 0} (parts : V → ℕ) (items : V → List A) where
       → sum_by parts views ≡ parts v → flat_map items views ≡ items v
   only_one [] id v at empty e = absurd (some-ne-none v (sym at))
   only_one (u ∷ us) zero v at empty e =
-      let same = some-injective u v at in
-      let rest = none_left us (λ id. empty (suc id)) (omega (arith, ap parts same, sum_by-cons parts u us)) in
-      rw (same, rest) (append-nil (items v))
+      grind (arith, common_steps, some-injective u v at, none_left us (λ id. empty (suc id)), sum_by-cons, append-nil)
   only_one (u ∷ us) (suc id) v at empty e =
-      let sum = sum_by-cons parts u us in let mine = sum_by-at parts us id v at in
-      let here = empty 0 u refl (omega arith) in rw here (only_one us id v at (λ j. empty (suc j)) (omega arith))
+      grind (arith, sum_by-cons, sum_by-at parts us id v at, empty 0 u refl, only_one us id v at (λ j. empty (suc j)))
 
 module _ {A : Type 0} (p : A → Bool) where
   pub count_by-no : (x : A) (xs : List A) → p x ≡ false → count_by p (x ∷ xs) ≡ count_by p xs
@@ -170,10 +152,7 @@ module _ {A : Type 0} (p : A → Bool) where
 
   pub count_of : (xs : List A) → 0 < count_by p xs → (x : A) × Contains xs x × (p x ≡ true)
   count_of [] h = absurd (omega (arith, h))
-  count_of (y ∷ ys) h = elim (cases_Bool (p y)) [
-    | inl t ↦ (y, front y ys, t)
-    | inr f ↦ let r = count_of ys (omega (arith, h, count_by-no y ys f)) in (r.0, behind y ys r.0 r.1, r.2)
-  ]
+  count_of (y ∷ ys) h = grind (arith, common_steps, behind, cases_Bool, count_by-no, front, count_of ys)
 
 -- a list that weighs no more, however members are weighed, has no further members
 abbrev pub Within : {A : Type 0} → List A → List A → Type 0

@@ -1,15 +1,9 @@
 -- What all seats hold together, as a caller of `in_shares` gets it from what each seat gains.
-use Rattle.std.proofs.Common.{◌≡◌, ℕ, zero, suc, ◌+◌, ◌*◌, ◌/◌, ◌%◌, ◌<◌, ◌⊎◌, ◌↔◌, inl, inr, List, [], ◌∷◌, take, drop, length, refl, ap, ◌∙◌, arith, slice_get, Some}
+use Rattle.std.proofs.Common.{◌≡◌, ℕ, zero, suc, ◌+◌, ◌*◌, ◌/◌, ◌%◌, ◌<◌, ◌⊎◌, ◌↔◌, inl, inr, ⊎_elim, List, [], ◌∷◌, take, drop, length, refl, ap, ◌∙◌, arith, slice_get, Some}
 use Rattle.std.proofs.lemmas.Option.{slice_get_within}
 use Rattle.std.proofs.lemmas.Nat.{mod_below, div-add-mod'}
 use Rattle.share_work.specs.Shares.{AddsSome, SeatsGain, SeatsHave}
-use Rattle.share_work.proofs.PieceRows.{get_drop, take_get}
-
-get_take : {X : Type 0} (n : ℕ) (xs : List X) (o : ℕ) → o < n → slice_get (take n xs) o ≡ slice_get xs o
-get_take zero xs o h = absurd (omega arith)
-get_take (suc n) [] o h = refl
-get_take (suc n) (x ∷ xs) zero h = refl
-get_take (suc n) (x ∷ xs) (suc o) h = get_take n xs o (omega arith)
+use Rattle.share_work.proofs.PieceRows.{get_drop, get_take, take_get}
 
 pub get_there : {X : Type 0} (xs : List X) (j : ℕ) → j < length xs → (x : X) × (slice_get xs j ≡ Some x)
 get_there [] j h = absurd (omega arith)
@@ -34,9 +28,7 @@ module _ {S T : Type 0} (holds : S → ℕ → ℕ → Type 0) (adds : ℕ → T
   -- what a seat holds it held before, or an item adds it
   pub held_within : SeatsGain holds adds workers cut items 0 old new → HoldWithin holds adds items old new
   held_within gain x n h =
-      let within = slice_get_within new h.0 h.1 h.2 in
-      let len = gain.len in
-      let was = get_there old h.0 (omega arith) in
+      let within = slice_get_within new h.0 h.1 h.2 in let was = get_there old h.0 (omega (arith, gain.len)) in
       elim ((gain.each h.0 was.0 h.1 was.1 h.2).within x n h.3) [
         | inl b ↦ inl (h.0, was.0, was.1, b)
         | inr a ↦
@@ -53,8 +45,7 @@ module _ {S T : Type 0} (holds : S → ℕ → ℕ → Type 0) (adds : ℕ → T
   added_held some_workers some_items len have x n a =
       let i : ℕ = a.0 in let piece : ℕ = i / cut in let w : ℕ = piece % workers in let k : ℕ = piece / workers in
       let o : ℕ = i % cut in
-      let small : w < workers = mod_below piece workers some_workers in
-      let inside : o < cut = mod_below i cut some_items in
+      let small = mod_below piece workers some_workers in let inside = mod_below i cut some_items in
       let p : ℕ = (0 + w + k * workers) * cut in
       let whole : 0 + w + k * workers ≡ piece = let e = div-add-mod' piece workers in omega arith in
       let at : p + o ≡ i = ap (λ q. q * cut + o) whole ∙ div-add-mod' i cut in
@@ -68,18 +59,11 @@ module _ {S T : Type 0} (holds : S → ℕ → ℕ → Type 0) (adds : ℕ → T
   held_kept : SeatsGain holds adds workers cut items 0 old new → (x n : ℕ) → SomeHolds holds old x n
       → SomeHolds holds new x n
   held_kept gain x n h =
-      let within = slice_get_within old h.0 h.1 h.2 in
-      let len = gain.len in
-      let now = get_there new h.0 (omega arith) in
+      let within = slice_get_within old h.0 h.1 h.2 in let now = get_there new h.0 (omega (arith, gain.len)) in
       (h.0, now.0, now.1, (gain.each h.0 h.1 now.0 h.2 now.1).kept x n h.3)
 
   pub held_together : 0 < workers → 0 < cut → length old ≡ workers → SeatsGain holds adds workers cut items 0 old new
       → SeatsHave holds adds workers cut items 0 new → HoldTogether holds adds items old new
   held_together some_workers some_items many gain have x n =
-      let len = gain.len in (
-        held_within gain x n,
-        λ h. elim h [
-          | inl was ↦ held_kept gain x n was
-          | inr added ↦ added_held some_workers some_items (omega arith) have x n added
-        ],
-      )
+      let len = gain.len in
+      (held_within gain x n, ⊎_elim (held_kept gain x n) (added_held some_workers some_items (omega arith) have x n))

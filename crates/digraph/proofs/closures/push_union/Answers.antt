@@ -1,4 +1,4 @@
-use Rattle.std.proofs.Common.{◌≡◌, ℕ, List, [], ◌∷◌, ◌++◌, get_or, arith, refl}
+use Rattle.std.proofs.Common.{get_or, arith, refl}
 use Rattle.std.proofs.lemmas.Result.{on_ok_weaker}
 use Rattle.std.proofs.lemmas.List.Elements.{Contains-get_or}
 use Rattle.digraph.proofs.Closing.{one_long, union_of_one}
@@ -6,17 +6,14 @@ use Rattle.digraph.proofs.closures.push_union.Goals as goal
 
 pub push_extended-requires : goal.push_extended-requires
 push_extended-requires c = c.requires.nodes (get_or c.args.nodes.now 0 0)
-    (Contains-get_or c.args.nodes.now 0 0 (omega (arith, c.in-len1.len_at_least)))
+    (Contains-get_or c.args.nodes.now 0 0 (omega arith))
 
 pub returns-in-len1-clause-union : goal.returns-in-len1-clause-union
 returns-in-len1-clause-union c =
-    let lists = c.args.lists.now in
-    let node = get_or c.args.nodes.now 0 0 in
-    let inside = c.requires.nodes node (Contains-get_or c.args.nodes.now 0 0 (omega (arith, c.in-len1.len_at_least))) in
-    let list : List ℕ = get_or lists node [] ++ c.args.own ∷ [] in
-    on_ok_weaker c.push_extended.result (λ (appended : c.push_extended.new.self ≡ lists ++ list ∷ []). (
-      list,
+    let inside = c.requires.nodes _ (Contains-get_or c.args.nodes.now 0 0 (omega arith)) in
+    on_ok_weaker c.push_extended.result (λ appended. (
+      _,
       appended,
-      union_of_one _ _ _ _ _ (one_long _ c.in-len1.len_at_least c.in-len1.len_below) refl (c.requires.rises node inside)
-          (λ x w. c.requires.below node x inside w),
+      union_of_one _ _ _ _ _ (one_long _ c.in-len1.len_at_least c.in-len1.len_below) refl (c.requires.rises _ inside)
+          (λ x w. c.requires.below _ x inside w),
     )) c.push_extended.ensures.appended

@@ -1,5 +1,5 @@
 use Rattle.digraph.specs.Edges.{graph_of}
-use Rattle.digraph.proofs.Rounding.{Appending}
+use Rattle.digraph.proofs.Levels.{Appending}
 use Rattle.digraph.proofs.ranks.append_ready.Given as goal
 
 abbrev pub invariant-loop-node : goal.invariant-loop-node

@@ -1,5 +1,5 @@
 use Rattle.digraph.specs.Edges.{graph_of}
-use Rattle.digraph.proofs.Rounding.{Leaves}
+use Rattle.digraph.proofs.Levels.{Leaves}
 use Rattle.digraph.proofs.ranks.leaves.Given as goal
 
 abbrev pub invariant-loop-node : goal.invariant-loop-node

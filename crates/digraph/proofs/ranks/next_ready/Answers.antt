@@ -4,8 +4,8 @@ use Rattle.std.proofs.lemmas.List.Kept.{Contains-dedup_nat, Contains-from_dedup}
 use Rattle.std.proofs.lemmas.Map.Keys.{IsStrictlyIncreasing-dedup}
 use Rattle.std.proofs.lemmas.List.Elements.{Contains-get_or}
 use Rattle.digraph.specs.Edges.{Edge, graph_of}
-use Rattle.digraph.proofs.Gathering.{joined_where, joined_all_where, joined_through}
-use Rattle.digraph.proofs.Marking.{among_some, among_some_all, same_members}
+use Rattle.digraph.proofs.Gathering.{joined_where, joined_all_where, joined_two}
+use Rattle.digraph.proofs.Visiting.{among_some, among_some_all, same_members}
 use Rattle.digraph.proofs.Rows.{edge_below, length_graph}
 use Rattle.digraph.proofs.ranks.next_ready.Goals as goal
 
@@ -15,10 +15,8 @@ row-requires c = c.requires.settled (get_or c.args.settled.now c.loop-node.node-
 
 pub append_ready-requires-clause-nodes : goal.append_ready-requires-clause-nodes
 append_ready-requires-clause-nodes c a w =
-    let turned = graph_of c.args.turned.now in
-    let edge : Edge turned (get_or c.args.settled.now c.loop-node.node-index 0) a = rw c.row.ensures at w in
-    let below = edge_below (graph_of c.args.graph.now) a _ ((c.requires.turned _ a).0 edge) in
-    omega (arith, below, length_graph c.args.graph.now)
+    let edge = (c.requires.turned _ a).0 (rw c.row.ensures at w) in
+    omega (arith, edge_below (graph_of c.args.graph.now) a _ edge, length_graph c.args.graph.now)
 
 pub loop-node-preserved : goal.loop-node-preserved
 loop-node-preserved c = record {
@@ -34,8 +32,8 @@ returns-clause-rises c = rw (dedup_is _ _ _ c.dedup.ensures.filtered)
 
 pub returns-clause-members : goal.returns-clause-members
 returns-clause-members c a =
-    let some =
-    among_some_all (Edge (graph_of c.args.graph.now) a) c.args.settled.now c.loop-node.node-index (omega arith) in
-    rw (dedup_is _ _ _ c.dedup.ensures.filtered) (joined_through
+    let some = among_some_all (Edge (graph_of c.args.graph.now) a) c.args.settled.now _ (omega arith) in
+    rw (dedup_is _ _ _ c.dedup.ensures.filtered) (joined_two
     (Contains-from_dedup _ c.sort_unstable.new.self.items a, Contains-dedup_nat c.sort_unstable.new.self.items a)
-    (same_members _ _ a c.sort_unstable.ensures.permutation) (joined_all_where (c.loop-node.invariant.found a) some))
+    (joined_two (same_members _ _ a c.sort_unstable.ensures.permutation)
+    (joined_all_where (c.loop-node.invariant.found a) some)))

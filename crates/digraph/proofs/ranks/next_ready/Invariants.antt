@@ -1,5 +1,5 @@
 use Rattle.digraph.specs.Edges.{graph_of}
-use Rattle.digraph.proofs.Rounding.{Collecting}
+use Rattle.digraph.proofs.Levels.{Collecting}
 use Rattle.digraph.proofs.ranks.next_ready.Given as goal
 
 abbrev pub invariant-loop-node : goal.invariant-loop-node

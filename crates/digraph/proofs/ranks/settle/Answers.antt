@@ -1,12 +1,12 @@
-use Rattle.std.proofs.Common.{arith, get_or, refl}
+use Rattle.std.proofs.Common.{arith, refl}
 use Rattle.std.proofs.lemmas.List.Elements.{Contains-get_or}
 use Rattle.digraph.proofs.Gathering.{joined_end}
-use Rattle.digraph.proofs.Marking.{among_all}
+use Rattle.digraph.proofs.Visiting.{among_all}
 use Rattle.digraph.proofs.ranks.settle.Goals as goal
 
 pub loop-node-init : goal.loop-node-init
 loop-node-init c = record {
-  room = λ k h. c.requires.room (get_or c.args.nodes.now k 0) (Contains-get_or c.args.nodes.now k 0 h);
+  room = λ k h. c.requires.room _ (Contains-get_or _ k 0 h);
   marked = λ x. grind arith;
   ranked = λ x w. grind arith;
   others = λ x out. refl;

@@ -1,4 +1,4 @@
-use Rattle.digraph.proofs.Rounding.{Settled}
+use Rattle.digraph.proofs.Levels.{Settled}
 use Rattle.digraph.proofs.ranks.settle.Given as goal
 
 abbrev pub invariant-loop-node : goal.invariant-loop-node

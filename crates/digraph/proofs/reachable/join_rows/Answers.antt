@@ -8,7 +8,7 @@ pub join-requires-clause-other : goal.join-requires-clause-other
 join-requires-clause-other c =
     let inside = Contains-get_or c.args.others.now c.loop-other.other-index 0 c.loop-other-test.true in
     let below = c.requires.others (get_or c.args.others.now c.loop-other.other-index 0) inside in
-    omega (arith, below, c.requires.row, c.loop-other.invariant.large.rows)
+    omega arith
 
 pub loop-other-preserved : goal.loop-other-preserved
 loop-other-preserved c = joining_more _ _ _ _ _ _ c.loop-other-test.true c.requires.row c.requires.others

@@ -8,5 +8,5 @@ join_rows-requires-clause-others c b w = c.requires.falls (c.loop-node.node - 1)
 pub loop-node-preserved : goal.loop-node-preserved
 loop-node-preserved c =
     let back : c.loop-node.node ≡ c.loop-node.node - 1 + 1 = omega arith in
-    succeeding_more _ _ _ _ _ c.requires.falls (omega (arith, c.requires.size)) (rw back at c.loop-node.invariant)
+    succeeding_more _ _ _ _ _ c.requires.falls (omega arith) (rw back at c.loop-node.invariant)
     (rw c.row.ensures at c.join_rows.ensures)

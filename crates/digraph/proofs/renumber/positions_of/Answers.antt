@@ -1,6 +1,5 @@
-use Rattle.std.proofs.Common.{◌≡◌, ◌∙◌, ap, sym, length, get_or, refl, arith}
-use Rattle.digraph.specs.Renumbered.{node_at}
-use Rattle.digraph.proofs.Marking.{among_all}
+use Rattle.std.proofs.Common.{sym, length, refl, arith}
+use Rattle.digraph.proofs.Visiting.{among_all}
 use Rattle.digraph.proofs.Renumbering.{placed_more, inside_order}
 use Rattle.digraph.proofs.renumber.positions_of.Goals as goal
 
@@ -20,8 +19,6 @@ returns c =
       size = p.size;
       position = λ k below. (inside_order _ order o k below, p.placed k (omega arith));
       node = λ a below. (
-          let at = (among_all order (length order) a refl).0 ((o.whole a).1 (omega (arith, below, o.size))) in
-          let same : get_or c.loop-position.positions.items a 0 ≡ at.0 =
-          ap (λ i. get_or c.loop-position.positions.items i 0) (sym at.2) ∙ p.placed at.0 (omega (arith, at.1)) in
-          (omega (arith, same, at.1), ap (node_at order) same ∙ at.2));
+          let at = (among_all order (length order) a refl).0 ((o.whole a).1 (omega (arith, o.size))) in
+          rw (rw at.2 at (p.placed at.0 (omega (arith, at.1)))) (at.1, at.2));
     })

@@ -1,6 +1,5 @@
-use Rattle.std.proofs.Common.{◌≡◌, sym, [], ◌∷◌, ◌++◌, ◌+◌, length, ◌∙◌, ap, get_or, arith}
+use Rattle.std.proofs.Common.{length-append, sym, [], ◌∷◌, length, ◌∙◌, ap, arith}
 use Rattle.digraph.specs.Edges.{IsWithin, successors, graph_of}
-use Rattle.std.proofs.lemmas.Grind.{common_steps}
 use Rattle.digraph.specs.Renumbered.{HasPosition, node_at}
 use Rattle.digraph.proofs.Gathering.{below_more}
 use Rattle.digraph.proofs.Rows.{edge_push, graph_push, length_graph}
@@ -8,15 +7,13 @@ use Rattle.digraph.proofs.renumber.renumber_rows.Goals as goal
 
 pub falling_positions-requires : goal.falling_positions-requires
 falling_positions-requires c b w =
-    let below = c.requires.within (get_or c.args.order.now c.loop-node.node-index 0) b (rw c.row.ensures at w) in
-    omega (arith, below, c.requires.size, c.requires.positions.size, length_graph c.args.graph.now)
+    omega (arith, c.requires.within _ b (rw c.row.ensures at w), length_graph c.args.graph.now)
 
 pub loop-node-preserved : goal.loop-node-preserved
 loop-node-preserved c =
     let rows = graph_of c.loop-node.rows.items in
     rw (ap graph_of c.in_ok-push.ensures.items ∙ graph_push c.loop-node.rows.items c.in_ok-row.row) (record {
-      size = (let more : length (rows ++ c.in_ok-row.row.items ∷ []) ≡ length rows + 1 = grind (arith, common_steps) in
-          omega (arith, more, c.loop-node.invariant.size));
+      size = omega (arith, length-append rows (c.in_ok-row.row.items ∷ []));
       rowed = λ k j. below_more (λ i. HasPosition c.args.positions.now
           (successors (graph_of c.args.graph.now) (node_at c.args.order.now i)) j) c.loop-node.node-index k
           (rw c.loop-node.invariant.size at (edge_push rows c.in_ok-row.row.items k j))
@@ -34,10 +31,10 @@ returns c =
       edges = λ k j hk hj. (
         λ edge. (let (b, way, is) = ((r.rowed k j).0 edge).1 in
             rw (ap (node_at order) (sym is) ∙ (p.node b (inside (node_at order k) b way)).1) way),
-        λ edge. (r.rowed k j).1 (omega (arith, hk), (node_at order j, edge, (p.position j hj).1)),
+        λ edge. (r.rowed k j).1 (omega arith, (node_at order j, edge, (p.position j hj).1)),
       );
       within = λ k j edge. (
           let w = ((r.rowed k j).0 edge).1 in
           let at = (p.node w.0 (inside (node_at order k) w.0 w.1)).0 in
-          omega (arith, at, w.2));
+          omega arith);
     }

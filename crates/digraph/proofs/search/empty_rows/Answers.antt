@@ -1,5 +1,4 @@
-use Rattle.std.proofs.Common.{◌≡◌, ◌+◌, [], ◌∷◌, ◌++◌, length, inl, inr, arith}
-use Rattle.std.proofs.lemmas.Grind.{common_steps}
+use Rattle.std.proofs.Common.{length-append, [], ◌∷◌, inl, inr, arith}
 use Rattle.digraph.specs.Edges.{graph_of}
 use Rattle.digraph.proofs.Rows.{edge_push, graph_push, no_items}
 use Rattle.digraph.proofs.search.empty_rows.Goals as goal
@@ -9,8 +8,7 @@ loop-preserved c =
     let rows = c.loop.rows.items in
     let v = c.new.result in
     rw c.in_ok-push.ensures.items (record {
-      size = (let len : length (rows ++ v ∷ []) ≡ length rows + 1 = grind (arith, common_steps) in
-          omega (arith, len, c.loop.invariant.size));
+      size = omega (arith, length-append rows (v ∷ []));
       empty = λ a b edge. elim ((edge_push (graph_of rows) v.items a b).0 (rw (graph_push rows v) at edge)) [
         | inl before ↦ c.loop.invariant.empty a b before
         | inr (last, w) ↦ no_items b (rw c.new.ensures.items at w)

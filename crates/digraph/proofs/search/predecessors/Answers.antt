@@ -13,13 +13,12 @@ loop-node-init c = record {
 
 pub turn-requires : goal.turn-requires
 turn-requires c = record {
-  room = λ b w. (let within = c.requires c.loop-node.node b (rw c.row.ensures at w) in
-      omega (arith, within, c.loop-node.invariant.size, length_graph c.args.graph.now, c.deref_mut.ensures.len));
+  room = λ b w. omega (arith, c.requires c.loop-node.node b (rw c.row.ensures at w), length_graph c.args.graph.now);
 }
 
 pub loop-node-preserved : goal.loop-node-preserved
 loop-node-preserved c =
-    let len : length c.turn.new.rows ≡ length c.loop-node.rows.items = omega (arith, c.deref_mut.ensures.len) in
+    let len : length c.turn.new.rows ≡ length c.loop-node.rows.items = omega arith in
     rw (written _ _ _ c.loop-node.rows.ok.0 len) (record {
       size = len ∙ c.loop-node.invariant.size;
       edges = λ b a. below_more (λ x. Edge (graph_of c.args.graph.now) x b) c.loop-node.node a
@@ -30,6 +29,6 @@ loop-node-preserved c =
 pub returns-clause-turned : goal.returns-clause-turned
 returns-clause-turned c b a = (
   λ edge. ((c.loop-node.invariant.edges b a).0 edge).1,
-  λ edge. (let below = edge_below (graph_of c.args.graph.now) a b edge in
-      (c.loop-node.invariant.edges b a).1 (omega (arith, below, length_graph c.args.graph.now), edge)),
+  λ edge. (c.loop-node.invariant.edges b a).1
+      (omega (arith, edge_below (graph_of c.args.graph.now) a b edge, length_graph c.args.graph.now), edge),
 )

@@ -1,6 +1,6 @@
 use Rattle.std.proofs.Common.{◌-◌, length}
 use Rattle.digraph.specs.Edges.{graph_of}
-use Rattle.digraph.proofs.Searching.{Searching}
+use Rattle.digraph.proofs.Closing.{Searching}
 use Rattle.digraph.proofs.search.search.Given as goal
 
 abbrev pub invariant-loop-next : goal.invariant-loop-next

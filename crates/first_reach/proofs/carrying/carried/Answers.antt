@@ -1,7 +1,7 @@
 use Rattle.std.proofs.Common.{◌≡◌, ℕ, ◌+◌, ◌≤◌, length, arith, sym, ◌∙◌, Vec, Global}
 use Rattle.share_work.specs.Posts.{NONE}
 use Rattle.std.proofs.lemmas.Result.{IfOk-weaker}
-use Rattle.first_reach.proofs.AllReplies.{root_first_too, carried_all}
+use Rattle.first_reach.proofs.Replies.{root_first_too, carried_all}
 use Rattle.first_reach.proofs.carrying.carried.Goals as goal
 
 pub each_in_shares-requires-clause-takes : goal.each_in_shares-requires-clause-takes

@@ -1,5 +1,4 @@
 use Rattle.std.proofs.Common.{ℕ, ◌<◌, ◌≤◌, ◌^◌, Option, length, arith, refl, ap, ◌∙◌}
-use Rattle.std.proofs.lemmas.Grind.{common_steps}
 use Rattle.std.specs.Option.{ForSome}
 use Rattle.std.proofs.lemmas.Option.{slice_get_within}
 use Rattle.share_work.specs.Posts.{NONE}
@@ -39,6 +38,3 @@ returns-clause-first g c = λ w below.
     let inside : w < g.F.Reach.files c.in_ok-table.table.reach = rw c.in_ok-table.ensures.0 below in
     c.in-Ok.ensures.least w inside ∙ least_is list roots top (marked_posts list c.in-Some.seat.view.marks) same w
     ∙ ap (λ (s : g.row.F.Denot). first_reach (g.F.Reach.list s) roots w) c.in_ok-table.ensures.0
-
-pub join_seats-requires : goal.join_seats-requires
-join_seats-requires g c = grind (arith, common_steps)

@@ -1,5 +1,4 @@
-use Rattle.std.proofs.Common.{◌≡◌, ◌+◌, ◌<◌, ◌++◌, length, reverse, All, sum_by}
-use Rattle.std.specs.List.{flat_map}
+use Rattle.std.proofs.Common.{◌≡◌, ◌+◌, ◌<◌, ◌++◌, length, reverse, All, sum_by, flat_map}
 use Rattle.first_reach.proofs.marking.join_seats.Given as goal
 
 abbrev pub invariant-loop-other : goal.invariant-loop-other

@@ -1,6 +1,7 @@
-use Rattle.std.proofs.Common.{refl}
-use Rattle.proto_file.specs.Local.{of_tokens}
-use Rattle.proto_file.proofs.Judging.{grammar_fault}
+use Rattle.std.proofs.Common.{refl, ap, ◌∙◌}
+use Rattle.proto_tokens.specs.ProgramTokens.{tokens_of}
+use Rattle.proto_syntax.specs.Told.{place_of_token}
+use Rattle.proto_file.specs.Local.{of_tokens, of_grammar}
 use Rattle.proto_file.proofs.description.tree_of.Goals as goal
 
 pub returns-in-Err-At-clause-first : goal.returns-in-Err-At-clause-first
@@ -10,7 +11,7 @@ returns-in-Err-At-clause-first c name =
 
 pub returns-in-Err-At-parse-clause-first : goal.returns-in-Err-At-parse-clause-first
 returns-in-Err-At-parse-clause-first c name =
-    rw (c.at-in-Err-At-parse.ensures, c.in-Err-At-parse.place-is, c.in-Err-At-parse.kind-is)
-    (grammar_fault c.args.limits.now name c.args.text.now c.in-Ok.tokens _ _
-    (rw c.in-Err-At-parse.field-0-is at c.in-Err-At-parse.ensures.fault)
-    c.in-Ok.ensures.tokens c.in-Ok.ensures.end)
+    let ts = tokens_of c.in-Ok.tokens in
+    let (k, fault, is_kind, at) = rw c.in-Err-At-parse.field-0-is at c.in-Err-At-parse.ensures.fault in
+    rw (c.at-in-Err-At-parse.ensures, c.in-Err-At-parse.place-is, c.in-Err-At-parse.kind-is) (of_grammar refl
+    (ts, k, c.in-Ok.ensures.tokens, fault, is_kind, at ∙ ap (place_of_token ts k) c.in-Ok.ensures.end))

@@ -13,7 +13,7 @@ pub returns-then-reaching-target : goal.returns-then-reaching-target
 returns-then-reaching-target c =
     let named = rw c.as_str.ensures at c.in-Some.ensures in
     let back = (c.requires.reaching c.in-Some.target).0
-    (omega (arith, named.0, c.requires.room), c.if-reaching-target.true) in (
+    (omega arith, c.if-reaching-target.true) in (
       cyclic c.in-Some.target named back,
       only_cyclic _ _ c.args.import.now _ named,
     )

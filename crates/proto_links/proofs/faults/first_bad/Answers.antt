@@ -2,20 +2,22 @@ use Rattle.std.proofs.Common.{◌∙◌, sym, arith}
 use Rattle.digraph.proofs.Gathering.{joined_two}
 use Rattle.digraph.specs.Edges.{graph_of}
 use Rattle.digraph.proofs.Rows.{edge_below, length_graph}
-use Rattle.proto_links.proofs.Faulting.{none_more, first_bad_is, reaching_is}
-use Rattle.proto_links.proofs.Targeting.{imports_is, importer_inside}
+use Rattle.proto_links.proofs.Faulting.{none_more, first_bad_is, reaching_is, imports_is, importer_inside}
 use Rattle.proto_links.proofs.faults.first_bad.Goals as goal
 
 pub predecessors-requires : goal.predecessors-requires
 predecessors-requires c a b edge =
-    let named = ((c.requires.graph.edges a b).0 edge).2 in
-    omega (arith, named.0, c.requires.graph.size, length_graph c.args.imports.now)
+    omega (arith, ((c.requires.graph.edges a b).0 edge).2.0, length_graph c.args.imports.now)
 
 pub mark_reached-requires-clause-within : goal.mark_reached-requires-clause-within
 mark_reached-requires-clause-within c a b edge =
     let back = (c.in_ok-turned.ensures.turned a b).0 (rw c.deref.ensures.value at edge) in
-    let below = edge_below (graph_of c.args.imports.now) b a back in
-    omega (arith, below, c.in_ok-turned.ensures.size, length_graph c.args.imports.now, c.deref.ensures.len)
+    omega (
+      arith,
+      edge_below (graph_of c.args.imports.now) b a back,
+      c.in_ok-turned.ensures.size,
+      length_graph c.args.imports.now,
+    )
 
 pub first_wrong-first-requires-clause-reaching : goal.first_wrong-first-requires-clause-reaching
 first_wrong-first-requires-clause-reaching c b = rw c.deref-in-loop-file.ensures.value (joined_two
@@ -33,4 +35,4 @@ loop-file-preserved c = none_more
     c.in_default.is c.first_wrong-first.ensures c.loop-file.invariant
 
 pub returns : goal.returns
-returns c a p k w = c.loop-file.invariant.none a p k (let below = importer_inside _ a w.0 w.1 in omega (arith, below)) w
+returns c a p k w = c.loop-file.invariant.none a p k (omega (arith, importer_inside _ a w.0 w.1)) w

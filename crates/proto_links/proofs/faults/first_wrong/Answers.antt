@@ -1,6 +1,5 @@
 use Rattle.std.proofs.Common.{take_all, arith}
-use Rattle.proto_links.proofs.Faulting.{first_more, first_skip}
-use Rattle.proto_links.proofs.Targeting.{prefix_more}
+use Rattle.proto_links.proofs.Faulting.{first_more, first_skip, prefix_more}
 use Rattle.proto_links.proofs.faults.first_wrong.Goals as goal
 use Rattle.proto_links.proofs.faults.first_wrong.Goals.{in-Some, in_default}
 

@@ -2,7 +2,7 @@ use Rattle.std.proofs.Common.{◌∙◌, sym, ap, arith, inl, inr}
 use Rattle.digraph.specs.Edges.{graph_of}
 use Rattle.digraph.proofs.Rows.{graph_push}
 use Rattle.proto_links.specs.Imports.{imports_of}
-use Rattle.proto_links.proofs.Targeting.{graphing_more, importer_inside, imports_is, rows_all}
+use Rattle.proto_links.proofs.Faulting.{graphing_more, importer_inside, imports_is, rows_all}
 use Rattle.proto_links.proofs.graph.import_graph.Goals as goal
 use Rattle.proto_links.proofs.graph.import_graph.Goals.{then-is_whole, else-is_whole}
 
@@ -34,4 +34,4 @@ returns-clause-public c = record {
 
 pub returns-clause-whole : goal.returns-clause-whole
 returns-clause-whole c t a m =
-    c.loop-file.invariant.found t a (let h = importer_inside c.args.files.now a m.0 m.1 in omega (arith, h)) m
+    c.loop-file.invariant.found t a (omega (arith, importer_inside c.args.files.now a m.0 m.1)) m

@@ -1,4 +1,4 @@
-use Rattle.proto_links.proofs.Targeting.{Graphing}
+use Rattle.proto_links.proofs.Faulting.{Graphing}
 use Rattle.proto_links.proofs.graph.import_graph.Given as goal
 
 abbrev pub invariant-loop-file : goal.invariant-loop-file

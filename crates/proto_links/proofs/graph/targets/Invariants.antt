@@ -1,5 +1,5 @@
 use Rattle.std.proofs.Common.{take}
-use Rattle.proto_links.proofs.Targeting.{Targeting}
+use Rattle.proto_links.proofs.Faulting.{Targeting}
 use Rattle.proto_links.proofs.graph.targets.Given as goal
 
 abbrev pub invariant-loop-import : goal.invariant-loop-import

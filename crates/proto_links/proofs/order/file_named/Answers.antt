@@ -4,7 +4,7 @@ use Rattle.std.proofs.lemmas.Cmp.{nat_list_cmp_total}
 use Rattle.std.proofs.lemmas.List.Sorted.{searchable_from_sorted}
 use Rattle.std.proofs.lemmas.Fn.{always_returns_same}
 use Rattle.proto_links.specs.Imports.{name_of}
-use Rattle.proto_links.proofs.Named.{found_name, no_name, sorted_names}
+use Rattle.proto_links.proofs.NameRows.{found_name, no_name, sorted_names}
 use Rattle.proto_links.proofs.order.file_named.Goals as goal
 
 pub returns-in-Ok : goal.returns-in-Ok

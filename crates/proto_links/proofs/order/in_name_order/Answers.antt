@@ -3,7 +3,7 @@ use Rattle.std.proofs.Common.{◌≡◌, ◌-◌, Less, arith, nat_cmp}
 use Rattle.std.proofs.lemmas.List.{length-map}
 use Rattle.std.proofs.lemmas.Grind.{common_steps}
 use Rattle.proto_links.specs.Imports.{name_at}
-use Rattle.proto_links.proofs.Named.{pair_names}
+use Rattle.proto_links.proofs.NameRows.{pair_names}
 use Rattle.proto_links.proofs.order.in_name_order.Goals as goal
 
 pub returns-then-not-is_before : goal.returns-then-not-is_before

@@ -9,10 +9,8 @@ reach_lists-requires c = rw c.deref.ensures.value c.requires.falls
 pub with_nodes-requires : goal.with_nodes-requires
 with_nodes-requires c a k h inside =
     let reaches = rw c.deref.ensures.value at c.in_ok-reach.ensures.reaches in
-    let row : a < length c.args.positioned.now.imports.items =
-    omega (arith, h, c.in_ok-reach.ensures.size, c.deref.ensures.len) in
-    let le = leads_le _ k a c.requires.falls (((reaches a row).members k).0 inside) in
-    omega (arith, le, row, c.deref-2.ensures.len)
+    let row : a < length c.args.positioned.now.imports.items = omega (arith, c.in_ok-reach.ensures.size) in
+    omega (arith, leads_le _ k a c.requires.falls (((reaches a row).members k).0 inside))
 
 pub returns : goal.returns
 returns c = IfOk-weaker c.with_nodes.result _ _ (λ reach named. record {

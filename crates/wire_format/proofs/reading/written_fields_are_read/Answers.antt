@@ -1,5 +1,5 @@
 use Rattle.wire_format.proofs.ReadingRows.{one_list}
-use Rattle.wire_format.proofs.WrittenRows.{written_row}
+use Rattle.wire_format.proofs.ReadingRows.{written_row}
 use Rattle.wire_format.proofs.reading.written_fields_are_read.Goals as goal
 
 pub returns-clause-row : goal.returns-clause-row

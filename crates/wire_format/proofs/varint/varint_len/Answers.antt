@@ -1,17 +1,15 @@
-use Rattle.std.proofs.Common.{length, arith, ap}
+use Rattle.std.proofs.Common.{arith}
 use Rattle.wire_format.proofs.Varints.{varint_bytes-small, varint_bytes-step, varint_short}
 use Rattle.wire_format.proofs.varint.varint_len.Goals as goal
 
 pub overflow_add-len : goal.overflow_add-len
-overflow_add-len c = omega (arith, c.loop-rest.invariant, varint_short c.args.value)
+overflow_add-len c = omega (arith, varint_short)
 
 pub loop-rest-preserved : goal.loop-rest-preserved
-loop-rest-preserved c =
-    omega (arith, c.loop-rest.invariant, ap length (varint_bytes-step c.loop-rest.rest (omega arith) (omega arith)))
+loop-rest-preserved c = grind (arith, varint_bytes-step)
 
 pub returns-clause-len : goal.returns-clause-len
-returns-clause-len c =
-    omega (arith, c.loop-rest.invariant, ap length (varint_bytes-small c.loop-rest.rest (omega arith)))
+returns-clause-len c = grind (arith, varint_bytes-small)
 
 pub returns-clause-most : goal.returns-clause-most
-returns-clause-most c = omega (arith, returns-clause-len c, varint_short c.args.value)
+returns-clause-most c = omega (arith, returns-clause-len c, varint_short)

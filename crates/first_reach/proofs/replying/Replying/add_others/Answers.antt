@@ -2,7 +2,7 @@ use Rattle.std.proofs.Common.{append_assoc, append-nil, ◌≡◌, Some, length,
 use Rattle.std.proofs.lemmas.Option.{slice_get_within}
 use Rattle.std.proofs.Math.Seq.{take-length}
 use Rattle.first_reach.proofs.Lists.{contains_at}
-use Rattle.first_reach.proofs.Others.{others_more}
+use Rattle.first_reach.proofs.Replies.{others_more}
 use Rattle.first_reach.proofs.replying.Replying.add_others.Goals as goal
 use Rattle.first_reach.proofs.replying.Replying.add_others.Goals.{then-file-root+then-get-position+in_ok-push, else-file-root, else-file-root-via-then-file-root+else-get-position, else-file-root-via-else-file-root}
 use Rattle.share_work.proofs.Paying.{none_past}
@@ -17,10 +17,10 @@ loop-file-smaller g c = grind (arith, slice_get_within)
 
 pub loop-file-preserved : goal.loop-file-preserved
 loop-file-preserved g c =
-    let list = g.F.Reach.list c.args.self.now.reach.now c.args.root in let first = c.args.self.now.least.now in
+    let list = g.F.Reach.list c.args.self.now.reach.now c.args.root in
     let at : slice_get list c.loop-file.k ≡ Some c.in-Some.file = sym c.reached.ensures ∙ c.in-Some.is in
-    let inside = slice_get_within list c.loop-file.k c.in-Some.file at in
-    let more = others_more first c.args.position c.args.root c.loop-file.k c.in-Some.file list at in
+    let inside = slice_get_within list _ _ at in
+    let more = others_more c.args.self.now.least.now c.args.position c.args.root _ _ list at in
     grind (arith, append_assoc, append-nil, more, inside)
 
 pub returns : goal.returns

@@ -3,13 +3,13 @@ use Rattle.std.proofs.lemmas.List.{get_or_default}
 use Rattle.bit_matrix.specs.Bits.{has}
 use Rattle.bit_matrix.specs.Changes.{Meet, columns_of}
 use Rattle.proto_links.specs.Linked.{sees}
-use Rattle.proto_links.proofs.Laying.{sees_there}
+use Rattle.proto_links.proofs.Positions.{sees_there}
 use Rattle.proto_links.proofs.links.Links.sees_one_of.Goals as goal
 
 file_inside : (c : goal.After-meets) → c.args.file < length c.self.inside.positions.items
 file_inside c =
     let file = rw (sym c.self.view_is) at c.requires.file in
-    omega (arith, file, c.self.invariant.0.size)
+    omega arith
 
 -- the rows meet where the file's row does
 meets : (c : goal.After-meets) → IsTrue c.meets.result
@@ -29,5 +29,5 @@ returns-clause-one c t = let (b, mine, column, seen, set) = (meets c).0 t in (b,
 pub returns-clause-each : goal.returns-clause-each
 returns-clause-each c b inside column seen set =
     let below = rw (sym c.self.view_is) at inside in
-    let mine : b < columns_of c.self.inside.seen = omega (arith, below, c.self.invariant.0.columns) in
+    let mine : b < columns_of c.self.inside.seen = omega arith in
     (meets c).1 (b, mine, column, sym (sees_is c b mine) ∙ seen, set)

@@ -9,9 +9,7 @@ overflow_add-first g c =
     record { fits = omega (arith, (c.requires.takes c.loop-k.k c.index-items-k.result item).0) }
 
 pub item-requires : goal.item-requires
-item-requires g c =
-    let item = slice_get_read c.args.items.now _ c.loop-k.k _ refl (omega arith) c.index-items-k.is in
-    record { takes = (c.requires.takes c.loop-k.k c.index-items-k.result item).1 }
+item-requires g c = grind (arith, slice_get_read)
 
 pub loop-k-preserved : goal.loop-k-preserved
 loop-k-preserved g c =

@@ -19,21 +19,17 @@ pub returns-then-items-first-clause-gained : goal.returns-then-items-first-claus
 returns-then-items-first-clause-gained g c =
     let items = c.args.job.now.items.now in let made = c.in_ok-outs.ensures in
     let is = rw (← c.min-count.ensures) at (range_piece items c.loop-first.first c.cut-cut.result) in
-    let new = row_more _ _ _ _ _ _ _ _ _ _ _ _ _ c.in_ok-outs.outs _ _ _ _ c.loop-first.invariant.3 is
-    c.workers-workers.ensures c.cut-cut.ensures made.outs made.kept made.within made.gained
-    c.in_ok-push_back.ensures.items in
-    let few = c.if-items-first.true in
-    row_has _ _ _ _ _ _ _ _ _ _ _ _ new (omega arith)
+    row_has _ _ _ _ _ _ _ _ _ _ _ _ (row_more _ _ _ _ _ _ _ _ _ _ _ _ _ c.in_ok-outs.outs _ _ _ _
+    c.loop-first.invariant.3 is c.workers-workers.ensures c.cut-cut.ensures made.outs made.kept made.within made.gained
+    c.in_ok-push_back.ensures.items) (omega (arith, c.if-items-first.true))
 
 pub returns-then-items-first-clause-row : goal.returns-then-items-first-clause-row
 returns-then-items-first-clause-row g c =
     let items = c.args.job.now.items.now in let made = c.in_ok-outs.ensures in
     let is = rw (← c.min-count.ensures) at (range_piece items c.loop-first.first c.cut-cut.result) in
-    let new = row_more _ _ _ _ _ _ _ _ _ _ _ _ _ c.in_ok-outs.outs _ _ _ _ c.loop-first.invariant.3 is
-    c.workers-workers.ensures c.cut-cut.ensures made.outs made.kept made.within made.gained
-    c.in_ok-push_back.ensures.items in
-    let few = c.if-items-first.true in
-    row_whole _ _ _ _ _ _ _ _ _ _ _ _ new (omega arith)
+    row_whole _ _ _ _ _ _ _ _ _ _ _ _ (row_more _ _ _ _ _ _ _ _ _ _ _ _ _ c.in_ok-outs.outs _ _ _ _
+    c.loop-first.invariant.3 is c.workers-workers.ensures c.cut-cut.ensures made.outs made.kept made.within made.gained
+    c.in_ok-push_back.ensures.items) (omega (arith, c.if-items-first.true))
 
 pub loop-first-preserved : goal.loop-first-preserved
 loop-first-preserved g c =
@@ -44,7 +40,7 @@ loop-first-preserved g c =
     c.in_ok-push_back.ensures.items in (
       let more : c.workers-workers.result ≤ c.workers-workers.result * c.cut-cut.result =
           le-mul_of_pos_right _ (rw c.cut-cut.ensures c.args.job.now.plan.some_items) in
-          let under = c.loop-first.invariant.0 in omega arith,
+          omega (arith, c.loop-first.invariant.0),
       made.fits,
       made.number ∙ c.loop-first.invariant.2,
       new,

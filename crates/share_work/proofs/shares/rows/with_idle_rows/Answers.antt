@@ -8,6 +8,6 @@ loop-worker-preserved g c =
     let job = c.args.job.now in
     let inv = c.loop-worker.invariant in
     let past : length job.items.now ≤ (0 + c.loop-worker._worker) * job.plan.cut =
-    let end = c.requires.idle (omega arith) in grind (arith, mul-le-mul_right job.plan.cut inv.0) in
+    grind (arith, mul-le-mul_right job.plan.cut inv.0, c.requires.idle) in
     let more = rows_idle _ _ _ _ _ _ _ _ _ _ c.new.ensures.items past inv.2 in
     (omega arith, omega arith, rw c.in_ok-push_back.ensures.items more)

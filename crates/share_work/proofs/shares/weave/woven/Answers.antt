@@ -28,8 +28,8 @@ loop-piece-preserved g c =
 
 pub returns : goal.returns
 returns g c =
-    let ended = c.loop-piece-test.false in let far = c.loop-piece.auto._piece-end in
     let job = c.args.job.now in let all = div_ceil_times (length job.items.now) job.plan.cut job.plan.some_items in
-    let end : c.div_ceil-piece-end.result ≡ c.loop-piece._piece = omega arith in
+    let end : c.div_ceil-piece-end.result ≡ c.loop-piece._piece =
+    omega (arith, c.loop-piece-test.false, c.loop-piece.auto._piece-end) in
     gives_all (g.W.Work.gives job.work.now) _ _ c.loop-piece._piece _
     (rw (← end, c.div_ceil-piece-end.ensures, c.cut.ensures) all.0) c.loop-piece.invariant.1
