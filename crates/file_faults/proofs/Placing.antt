@@ -1,6 +1,5 @@
 -- Where the faults of sources by themselves stand.
-use Rattle.std.proofs.Common.{◌≡◌, ◌∙◌, sym, ap, ◌≤◌, inl, inr, List, length}
-use Rattle.std.specs.Prelude.{Contains}
+use Rattle.std.proofs.Common.{◌≡◌, ◌∙◌, sym, ap, ◌≤◌, inl, inr, List, length, Contains}
 use Rattle.std.proofs.lemmas.Bool.{cases_order}
 use Rattle.proto_base.specs.Limits.{limit_of}
 use Rattle.proto_base.specs.declared.limits.Limit.TheVariants as limit

@@ -1,6 +1,5 @@
 -- The faults of sources by themselves: there is one list of them, and its first one is the first of all faults.
-use Rattle.std.proofs.Common.{◌≡◌, sym, ap, subst, refl, ℕ, zero, suc, ◌≤◌, List, ◌∷◌, length, ◌<◌, map, arith}
-use Rattle.std.specs.Prelude.{Contains}
+use Rattle.std.proofs.Common.{◌≡◌, sym, ap, subst, refl, ℕ, zero, suc, ◌≤◌, List, ◌∷◌, length, ◌<◌, map, arith, Contains}
 use Rattle.proto_base.specs.Limits.{limit_of}
 use Rattle.proto_base.specs.declared.fault.Fault.{Fault}
 use Rattle.proto_base.specs.declared.file_fault.FileFault.{FileFault}

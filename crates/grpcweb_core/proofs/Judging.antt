@@ -1,11 +1,9 @@
 -- Targets and content types, as they are judged.
-use Rattle.std.proofs.Common.{◌≡◌, ◌↔◌, ℕ, ◌<◌, List, [], ◌∷◌, length, map, get_or, sym, ap, arith, refl, All, true, false, IsTrue, nat_eq}
-use Rattle.std.specs.Prelude.{take, drop}
+use Rattle.std.proofs.Common.{◌≡◌, ◌↔◌, ℕ, ◌<◌, List, [], ◌∷◌, length, map, get_or, sym, ap, arith, refl, All, true, false, IsTrue, nat_eq, take, drop, drop_at, take_at, take-append-drop, append-nil, eqb-true}
 use Rattle.std.specs.Char.{to_ascii_lowercase}
 use Rattle.std.specs.Str.{bytes_eq}
-use Rattle.std.proofs.lemmas.List.{drop_at, take_at, take-append-drop, append-nil, length-map}
+use Rattle.std.proofs.lemmas.List.{length-map}
 use Rattle.std.proofs.lemmas.Grind.{common_steps}
-use Rattle.std.proofs.lemmas.Bool.{eqb-true}
 use Rattle.std.proofs.Math.Seq.{drop-cons}
 use Rattle.std.proofs.lemmas.Slice.Eq.{bytes_eq-Decides}
 use Rattle.grpcweb_core.specs.Http.{IsBehindType, IsBlank, IsEmptyOrBegins, IsOfType, IsTargetOf}

@@ -1,14 +1,6 @@
-pub mod Empty
-pub mod Few
-pub mod Halves
-pub mod Hits
+pub mod Clashes
+pub mod Elements
 pub mod Intervals
 pub mod Items
-pub mod NameSets
 pub mod Named
-pub mod Packages
-pub mod Rising
 pub mod Settling
-pub mod Tested
-pub mod Three
-pub mod Whole

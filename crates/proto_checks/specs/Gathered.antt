@@ -12,7 +12,7 @@ use Rattle.proto_tree.specs.declared.literal.StringValue.{StringValue}
 use Rattle.proto_tree.specs.declared.message.MessageItem.{MessageItem}
 use Rattle.proto_tree.specs.declared.reserved.Range.{Range}
 use Rattle.proto_tree.specs.declared.reserved.RangeEnd.{RangeEnd}
-use Rattle.proto_options.specs.Statements.{enum_value, message_reserved, enum_reserved, ranges_in, names_in, greatest_field_number, greatest_value_number}
+use Rattle.proto_options.specs.Statements.{enum_value, message_reserved, enum_reserved, names_in, greatest_value_number}
 use Rattle.proto_tree.specs.Ranges.{last_number, number_of_bound}
 use Rattle.proto_tree.specs.Text.{joined}
 use Rattle.proto_checks.specs.Marks.{Marked}
@@ -68,21 +68,9 @@ bounds_of r = r.start ∷ end_bound r.end
 abbrev pub reserved_name : StringValue → Marked
 reserved_name s = record { text = joined s; place = s.first.span.start }
 
--- what the statements of a message and of an enum reserve
-abbrev pub message_ranges : List MessageItem → List MarkedRange
-message_ranges is = map (marked_range literal greatest_field_number) (flat_map ranges_in (flat_map message_reserved is))
-
-abbrev pub message_bounds : List MessageItem → List MarkedNumber
-message_bounds is = map literal (flat_map bounds_of (flat_map ranges_in (flat_map message_reserved is)))
-
+-- the names that the statements of a message and of an enum reserve
 abbrev pub message_reserved_names : List MessageItem → List Marked
 message_reserved_names is = map reserved_name (flat_map names_in (flat_map message_reserved is))
-
-abbrev pub enum_ranges : List EnumItem → List MarkedRange
-enum_ranges is = map (marked_range signed_number greatest_value) (flat_map ranges_in (flat_map enum_reserved is))
-
-abbrev pub enum_bounds : List EnumItem → List MarkedNumber
-enum_bounds is = map signed_number (flat_map bounds_of (flat_map ranges_in (flat_map enum_reserved is)))
 
 abbrev pub enum_reserved_names : List EnumItem → List Marked
 enum_reserved_names is = map reserved_name (flat_map names_in (flat_map enum_reserved is))

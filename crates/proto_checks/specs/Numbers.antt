@@ -1,15 +1,17 @@
 -- The rules on the numbers of a message's fields and of an enum's values, and on what is reserved.
-use Rattle.std.specs.Prelude.{◌≡◌, ◌≢◌, ℕ, ◌^◌, ◌≤◌, List, flat_map, Option, Some, None}
+use Rattle.std.specs.Prelude.{◌≡◌, ◌≢◌, ℕ, ◌^◌, ◌≤◌, List, map, flat_map, Option, Some, None}
+use Rattle.proto_base.specs.declared.kind.Kind.{Kind}
 use Rattle.proto_base.specs.declared.kind.Kind.TheVariants as kind
 use Rattle.proto_tree.specs.declared.enumeration.EnumItem.{EnumItem}
 use Rattle.proto_tree.specs.declared.message.MessageItem.{MessageItem}
 use Rattle.proto_tree.specs.declared.option.Setting.{Setting}
+use Rattle.proto_tree.specs.declared.reserved.Range.{Range}
 use Rattle.proto_desc.specs.declared.options.OptionValue.TheVariants.{Number}
 use Rattle.proto_desc.specs.Rules.{allow_alias}
 use Rattle.proto_desc.specs.declared.rules.ValueKind.TheVariants as value_kind
 use Rattle.proto_options.specs.Options.{enum_setting, first_setting, value_of}
-use Rattle.proto_options.specs.Statements.{greatest_field_number}
-use Rattle.proto_checks.specs.Gathered.{least_value, greatest_value, field_numbers, message_ranges, message_bounds, message_reserved_names, value_numbers, enum_ranges, enum_bounds, enum_reserved_names}
+use Rattle.proto_options.specs.Statements.{enum_reserved, greatest_field_number, message_reserved, ranges_in}
+use Rattle.proto_checks.specs.Gathered.{bounds_of, enum_reserved_names, field_numbers, greatest_value, least_value, literal, marked_range, message_reserved_names, signed_number, value_numbers}
 use Rattle.proto_base.specs.Least.{spot}
 use Rattle.proto_checks.specs.Marks.{NumberTwice, TextTwice, Outside, ReservedOverlap, ReservedBackwards, ReservedNumberUsed}
 use Rattle.proto_base.specs.Sets.{◌∪◌, StandsAt, Each, Where}
@@ -32,10 +34,17 @@ IsNoFieldNumber n = Where (IsFieldNumber n.number → ⊥) (spot n.place kind.Fi
 abbrev pub OwnFieldNumbersBreak : List MarkedNumber → Spot → Type 0
 OwnFieldNumbersBreak ns = Each ns IsNoFieldNumber ∪ NumberTwice kind.FieldNumberTwice ns
 
+-- reserved ranges as they stand, beside the numbers in use: their bounds lie within these, and `max` is the greatest
+abbrev pub ReservedRangesBreak : {N : Type 0} → (N → MarkedNumber) → (least greatest : ℕ) → Kind → List (Range N)
+    → List MarkedNumber → Spot → Type 0
+ReservedRangesBreak mark least greatest what listed used =
+    Outside least greatest what (map mark (flat_map bounds_of listed))
+    ∪ RangesBreak (map (marked_range mark greatest) listed) used
+
 -- the ranges that a message reserves, beside the numbers of its fields
 abbrev pub MessageRangesBreak : List MessageItem → List MarkedNumber → Spot → Type 0
-MessageRangesBreak items ns =
-    Outside 1 greatest_field_number kind.FieldNumberRange (message_bounds items) ∪ RangesBreak (message_ranges items) ns
+MessageRangesBreak items ns = ReservedRangesBreak literal 1 greatest_field_number kind.FieldNumberRange
+    (flat_map ranges_in (flat_map message_reserved items)) ns
 
 -- the statements of one message
 abbrev pub FieldNumbersBreak : List MessageItem → Spot → Type 0
@@ -62,8 +71,8 @@ OwnValueNumbersBreak items ns = FirstNotZero ns ∪ Outside least_value greatest
 
 -- the ranges that an enum reserves, beside the numbers of its values
 abbrev pub EnumRangesBreak : List EnumItem → List MarkedNumber → Spot → Type 0
-EnumRangesBreak items ns =
-    Outside least_value greatest_value kind.EnumNumberRange (enum_bounds items) ∪ RangesBreak (enum_ranges items) ns
+EnumRangesBreak items ns = ReservedRangesBreak signed_number least_value greatest_value kind.EnumNumberRange
+    (flat_map ranges_in (flat_map enum_reserved items)) ns
 
 -- the statements of one enum
 abbrev pub EnumNumbersBreak : List EnumItem → Spot → Type 0

@@ -1,6 +1,6 @@
 //! Rules on the statements of a message, and of the messages within it.
 
-ghost use Rattle.std.specs.Prelude.{◌≡◌, IfOk, flat_map};
+ghost use Rattle.std.specs.Prelude.{IfOk};
 ghost use Rattle.proto_tree.specs.declared.message.MessageItem as message_item;
 ghost use Rattle.proto_options.specs.Statements.{oneof_field};
 ghost use Rattle.proto_checks.specs.Elements.{MessageBreaks, BodyBreaks};
@@ -9,6 +9,7 @@ ghost use Rattle.proto_base.specs.Least.{IsLeast};
 ghost use Rattle.proto_checks.specs.Options.{optioned_plain, FieldOptionsBreak};
 ghost use Rattle.proto_base.specs.Sets.{Each};
 
+use crate::each::{Check, first_of};
 use crate::enumeration::enum_fault;
 use crate::field_options::{field_options_fault, is_packed_type, is_repeated, is_wide};
 use crate::numbers::first_field_number_fault;
@@ -33,17 +34,15 @@ fn member_fault(alloc: Global, field: &OneofField) -> Result<Option<Spot>, Alloc
     field_options_fault(alloc, &field.declarator, false, is_wide(&field.field_type))
 }
 
-fn members_fault(alloc: Global, items: &[OneofItem]) -> Result<Option<Spot>, AllocError>
-    ensures { IfOk result (λ first. IsLeast
-        (Each (flat_map oneof_field items.now) MemberBreaks) first) }
-{
-    let mut first = None;
-    for item in items {
-        if let OneofItem::Field(field) = item {
-            first = lesser(first, member_fault(alloc, field.get())?);
+impl Check for OneofItem<'_> {
+    ghost breaks = { λ item. Each (oneof_field item) MemberBreaks };
+
+    fn first_fault(&self, alloc: Global) -> Result<Option<Spot>, AllocError> {
+        match self {
+            OneofItem::Field(field) => member_fault(alloc, field.get()),
+            OneofItem::Option(_) | OneofItem::Empty(_) => Ok(None),
         }
     }
-    Ok(first)
 }
 
 /// The first fault of a oneof or of its members.
@@ -51,33 +50,27 @@ fn oneof_item_fault(alloc: Global, oneof: &Oneof) -> Result<Option<Spot>, AllocE
     ensures { IfOk result (λ first. IsLeast (ItemBreaks (message_item.Oneof oneof.now)) first) }
 {
     let own = oneof_fault(alloc, oneof)?;
-    let members = members_fault(alloc, oneof.items.as_slice())?;
+    let members = first_of(alloc, oneof.items.as_slice())?;
     Ok(lesser(members, own))
 }
 
-fn item_fault(alloc: Global, item: &MessageItem) -> Result<Option<Spot>, AllocError>
-    ensures { IfOk result (λ first. IsLeast (ItemBreaks item.now) first) }
-{
-    match item {
-        MessageItem::Field(field) => field_fault(alloc, field.get()),
-        MessageItem::Map(map) => { field_options_fault(alloc, &map.get().declarator, false, false) }
-        MessageItem::Oneof(oneof) => oneof_item_fault(alloc, oneof.get()),
-        MessageItem::Enum(declared) => enum_fault(alloc, declared.get()),
-        MessageItem::Message(_)
-        | MessageItem::Option(_)
-        | MessageItem::Reserved(_)
-        | MessageItem::Empty(_) => Ok(None),
-    }
-}
+impl Check for MessageItem<'_> {
+    ghost breaks = { ItemBreaks };
 
-fn items_fault(alloc: Global, items: &[MessageItem]) -> Result<Option<Spot>, AllocError>
-    ensures { IfOk result (λ first. IsLeast (Each items.now ItemBreaks) first) }
-{
-    let mut first = None;
-    for item in items {
-        first = lesser(first, item_fault(alloc, item)?);
+    fn first_fault(&self, alloc: Global) -> Result<Option<Spot>, AllocError> {
+        match self {
+            MessageItem::Field(field) => field_fault(alloc, field.get()),
+            MessageItem::Map(map) => {
+                field_options_fault(alloc, &map.get().declarator, false, false)
+            }
+            MessageItem::Oneof(oneof) => oneof_item_fault(alloc, oneof.get()),
+            MessageItem::Enum(declared) => enum_fault(alloc, declared.get()),
+            MessageItem::Message(_)
+            | MessageItem::Option(_)
+            | MessageItem::Reserved(_)
+            | MessageItem::Empty(_) => Ok(None),
+        }
     }
-    Ok(first)
 }
 
 /// The first fault of the statements of a message, without those of the messages within it.
@@ -86,7 +79,7 @@ fn body_fault(alloc: Global, items: &[MessageItem]) -> Result<Option<Spot>, Allo
 {
     let numbers = first_field_number_fault(alloc, items)?;
     let own = statement_settings_fault(alloc, Element::Message, items)?;
-    let elements = items_fault(alloc, items)?;
+    let elements = first_of(alloc, items)?;
     let alone = lesser(numbers, own);
     Ok(lesser(alone, elements))
 }

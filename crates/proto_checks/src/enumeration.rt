@@ -1,6 +1,6 @@
 //! Rules on enums (language guide, "Enumerations").
 
-ghost use Rattle.std.specs.Prelude.{◌≡◌, IfOk, flat_map};
+ghost use Rattle.std.specs.Prelude.{◌≡◌, IfOk};
 ghost use Rattle.std.specs.List.{list_any};
 ghost use Rattle.proto_options.specs.Statements.{enum_value};
 ghost use Rattle.proto_checks.specs.Elements.{IsEmptyEnum, ValueBreaks, EnumBreaks};
@@ -8,6 +8,7 @@ ghost use Rattle.proto_checks.specs.Parts.{is_value};
 ghost use Rattle.proto_base.specs.Least.{IsLeast};
 ghost use Rattle.proto_base.specs.Sets.{Each};
 
+use crate::each::{Check, first_of};
 use crate::numbers::first_enum_number_fault;
 use crate::settings::{bracketed_settings_fault, statement_settings_fault};
 use proto_base::{Kind, Spot, lesser};
@@ -40,17 +41,15 @@ fn value_fault(alloc: Global, value: &EnumValue) -> Result<Option<Spot>, AllocEr
     bracketed_settings_fault(alloc, Element::EnumValue, &value.options)
 }
 
-fn values_fault(alloc: Global, items: &[EnumItem]) -> Result<Option<Spot>, AllocError>
-    ensures { IfOk result (λ first. IsLeast (Each (flat_map enum_value items.now) ValueBreaks)
-        first) }
-{
-    let mut first = None;
-    for item in items {
-        if let EnumItem::Value(value) = item {
-            first = lesser(first, value_fault(alloc, value.get())?);
+impl Check for EnumItem<'_> {
+    ghost breaks = { λ item. Each (enum_value item) ValueBreaks };
+
+    fn first_fault(&self, alloc: Global) -> Result<Option<Spot>, AllocError> {
+        match self {
+            EnumItem::Value(value) => value_fault(alloc, value.get()),
+            EnumItem::Option(_) | EnumItem::Reserved(_) | EnumItem::Empty(_) => Ok(None),
         }
     }
-    Ok(first)
 }
 
 /// The first fault of an enum.
@@ -61,7 +60,7 @@ pub(crate) fn enum_fault(alloc: Global, declared: &Enum) -> Result<Option<Spot>,
     let empty = empty_fault(declared);
     let numbers = first_enum_number_fault(alloc, items)?;
     let own = statement_settings_fault(alloc, Element::Enum, items)?;
-    let values = values_fault(alloc, items)?;
+    let values = first_of(alloc, items)?;
     let first = lesser(empty, numbers);
     let first = lesser(first, own);
     Ok(lesser(first, values))

@@ -1,26 +1,25 @@
 //! All rules of a file (proto3 language specification, "Proto File").
 
-ghost use Rattle.std.specs.Prelude.{◌≡◌, IfOk, flat_map};
+ghost use Rattle.std.specs.Prelude.{◌≡◌, IfOk};
 ghost use Rattle.std.specs.Option.{option_map};
 ghost use Rattle.proto_desc.specs.DeclaredNames.{file_scope, declared_by};
-ghost use Rattle.proto_checks.specs.Checks.{NotProto3Syntax, import_mark, MessageNamesBreak, names_of, IsTooLong, HeadBreaks, NamesBreak, LengthsBreak, FileBreaks};
+ghost use Rattle.proto_checks.specs.Checks.{NotProto3Syntax, import_mark, IsTooLong, HeadBreaks, NamesBreak, LengthsBreak, FileBreaks};
 ghost use Rattle.proto_checks.specs.Parts.{StatementBreaks};
 ghost use Rattle.proto_base.specs.Least.{IsLeast, spot};
 ghost use Rattle.proto_checks.specs.Lengths.{capped};
 ghost use Rattle.proto_base.specs.Sets.{Each};
 
 use crate::body::message_fault;
+use crate::each::{Check, first_of};
 use crate::enumeration::enum_fault;
-use crate::lengths::{enums_fault, messages_fault, services_fault};
+use crate::lengths::first_length_fault;
 use crate::marks::{HasText, MarkedText};
-use crate::names::{enum_names_fault, message_names_fault};
 use crate::package::{package_lengths_fault, package_twice};
 use crate::repeats::first_text_twice;
 use crate::service::service_fault;
 use crate::settings::statement_settings_fault;
 use proto_base::{Kind, Limits, Place, Spot, lesser};
 use proto_desc::file::{FileDesc, ImportDesc, PackageDesc};
-use proto_desc::message::MessageDesc;
 use proto_desc::rules::Element;
 use proto_tree::text::joined;
 use proto_tree::{FileTree, Statement, Syntax};
@@ -65,44 +64,27 @@ fn head_fault(alloc: Global, tree: &FileTree, desc: &FileDesc) -> Result<Option<
     Ok(lesser(first, own))
 }
 
-fn statement_fault(alloc: Global, statement: &Statement) -> Result<Option<Spot>, AllocError>
-    ensures { IfOk result (λ first. IsLeast (StatementBreaks statement.now) first) }
-{
-    match statement {
-        Statement::Message(message) => message_fault(alloc, message.get()),
-        Statement::Enum(declared) => enum_fault(alloc, declared.get()),
-        Statement::Service(service) => service_fault(alloc, service.get()),
-        Statement::Import(_) | Statement::Package(_) | Statement::Option(_) | Statement::Empty(_) =>
-            Ok(None),
-    }
-}
+impl Check for Statement<'_> {
+    ghost breaks = { StatementBreaks };
 
-fn statements_fault(alloc: Global, statements: &[Statement]) -> Result<Option<Spot>, AllocError>
-    ensures { IfOk result (λ first. IsLeast (Each statements.now StatementBreaks) first) }
-{
-    let mut first = None;
-    for statement in statements {
-        first = lesser(first, statement_fault(alloc, statement)?);
+    fn first_fault(&self, alloc: Global) -> Result<Option<Spot>, AllocError> {
+        match self {
+            Statement::Message(message) => message_fault(alloc, message.get()),
+            Statement::Enum(declared) => enum_fault(alloc, declared.get()),
+            Statement::Service(service) => service_fault(alloc, service.get()),
+            Statement::Import(_)
+            | Statement::Package(_)
+            | Statement::Option(_)
+            | Statement::Empty(_) => Ok(None),
+        }
     }
-    Ok(first)
-}
-
-fn messages_names_fault(alloc: Global, messages: &[MessageDesc]) -> Result<Option<Spot>, AllocError>
-    ensures { IfOk result (λ first. IsLeast
-        (Each (flat_map names_of messages.now) MessageNamesBreak) first) }
-{
-    let mut first = None;
-    for message in messages {
-        first = lesser(first, message_names_fault(alloc, message)?);
-    }
-    Ok(first)
 }
 
 fn names_fault(alloc: Global, desc: &FileDesc) -> Result<Option<Spot>, AllocError>
     ensures { IfOk result (λ first. IsLeast (NamesBreak desc.now) first) }
 {
-    let messages = messages_names_fault(alloc, desc.messages.as_slice())?;
-    let enums = enum_names_fault(alloc, desc.enums.as_slice())?;
+    let messages = first_of(alloc, desc.messages.as_slice())?;
+    let enums = first_of(alloc, desc.enums.as_slice())?;
     Ok(lesser(messages, enums))
 }
 
@@ -120,9 +102,9 @@ fn declared_lengths_fault(limits: &Limits, desc: &FileDesc) -> Option<Spot>
     ensures { IsLeast (Each (declared_by desc.now) (IsTooLong limits.now)) result }
 {
     let len = scope_len(&desc.package);
-    let messages = messages_fault(limits, len, desc.messages.as_slice());
-    let enums = enums_fault(limits, len, desc.enums.as_slice());
-    let services = services_fault(limits, len, desc.services.as_slice());
+    let messages = first_length_fault(limits, len, desc.messages.as_slice());
+    let enums = first_length_fault(limits, len, desc.enums.as_slice());
+    let services = first_length_fault(limits, len, desc.services.as_slice());
     let types = lesser(messages, enums);
     lesser(types, services)
 }
@@ -145,7 +127,7 @@ fn file_fault(
 {
     let statements = tree.statements.as_slice();
     let head = head_fault(alloc, tree, desc)?;
-    let elements = statements_fault(alloc, statements)?;
+    let elements = first_of(alloc, statements)?;
     let names = names_fault(alloc, desc)?;
     let lengths = lengths_fault(limits, statements, desc);
     let first = lesser(head, elements);

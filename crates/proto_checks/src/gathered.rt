@@ -1,8 +1,8 @@
 //! The numbers of a message's fields and of an enum's values, and what is reserved there, each with its place.
 
 ghost use Rattle.std.specs.Prelude.{◌≡◌, ◌++◌, IfOk, OnOk, map, flat_map};
-ghost use Rattle.proto_options.specs.Statements.{oneof_field, message_reserved, enum_reserved, ranges_in, greatest_field_number};
-ghost use Rattle.proto_checks.specs.Gathered.{literal, signed_number, greatest_value, field_number, field_numbers, value_numbers, marked_range, bounds_of};
+ghost use Rattle.proto_options.specs.Statements.{oneof_field, message_reserved, enum_reserved, ranges_in};
+ghost use Rattle.proto_checks.specs.Gathered.{literal, signed_number, field_number, field_numbers, value_numbers, marked_range, bounds_of};
 ghost use Rattle.proto_checks.specs.Options.{optioned_in_oneof};
 
 use crate::marks::{MarkedNumber, MarkedRange};
@@ -23,12 +23,89 @@ pub(crate) const VALUE_MIN: u128 = VALUE_ZERO - 2_147_483_648;
 /// The greatest number of an enum's value, which `max` stands for in an enum.
 pub(crate) const VALUE_MAX: u128 = VALUE_ZERO + proto_options::VALUE_MAX as u128;
 
-fn literal(number: NumberLiteral) -> MarkedNumber
-    ensures { result ≡ literal number }
-{
-    MarkedNumber {
-        number: number.value as u128,
-        place: number.span.start,
+/// A number of a field or of an enum's value, as it is spelled.
+pub(crate) trait Literal: Copy {
+    ghost use Rattle.std.specs.Prelude.{◌≡◌};
+    ghost use Rattle.proto_checks.specs.declared.marks.MarkedNumber.{MarkedNumber};
+
+    /// The number, with its place.
+    ghost mark: { Self → MarkedNumber };
+
+    /// The number, with its place.
+    fn marked(self) -> MarkedNumber
+        ensures { result ≡ mark self };
+}
+
+impl Literal for NumberLiteral {
+    ghost mark = { literal };
+
+    fn marked(self) -> MarkedNumber {
+        MarkedNumber {
+            number: self.value as u128,
+            place: self.span.start,
+        }
+    }
+}
+
+/// A number of an enum is counted from -2^64 on. Its place is that of its minus, if it has one.
+impl Literal for SignedNumber {
+    ghost mark = { signed_number };
+
+    fn marked(self) -> MarkedNumber {
+        let value = self.number.value as u128;
+        match self.minus {
+            None => MarkedNumber {
+                number: VALUE_ZERO + value,
+                place: self.number.span.start,
+            },
+            Some(minus) => MarkedNumber {
+                number: VALUE_ZERO - value,
+                place: minus.start,
+            },
+        }
+    }
+}
+
+/// A statement that may reserve numbers and names.
+pub(crate) trait Reserves<'s> {
+    ghost use Rattle.std.specs.Prelude.{◌≡◌, List};
+    ghost use Rattle.std.specs.Option.{option_copied, option_to_list};
+    ghost use Rattle.proto_tree.specs.declared.reserved.ReservedItems.{ReservedItems};
+
+    /// How its numbers are spelled.
+    type Number: Literal;
+
+    /// What it reserves: numbers or names, or nothing.
+    ghost reserved_by: { Self → List (ReservedItems Self.Number) };
+
+    /// What it reserves, where it does.
+    fn reserved(&self) -> Option<&ReservedItems<'s, Self::Number>>
+        ensures { reserved_by self.now ≡ option_to_list (option_copied result) };
+}
+
+impl<'s> Reserves<'s> for MessageItem<'s> {
+    type Number = NumberLiteral;
+
+    ghost reserved_by = { message_reserved };
+
+    fn reserved(&self) -> Option<&ReservedItems<'s, NumberLiteral>> {
+        match self {
+            MessageItem::Reserved(reserved) => Some(&reserved.get().items),
+            _ => None,
+        }
+    }
+}
+
+impl<'s> Reserves<'s> for EnumItem<'s> {
+    type Number = SignedNumber;
+
+    ghost reserved_by = { enum_reserved };
+
+    fn reserved(&self) -> Option<&ReservedItems<'s, SignedNumber>> {
+        match self {
+            EnumItem::Reserved(reserved) => Some(&reserved.get().items),
+            _ => None,
+        }
     }
 }
 
@@ -38,7 +115,7 @@ fn put_members(numbers: &mut Vec<MarkedNumber>, items: &[OneofItem]) -> Result<(
 {
     for item in items {
         if let OneofItem::Field(field) = item {
-            numbers.push(literal(field.get().declarator.number))?;
+            numbers.push(field.get().declarator.number.marked())?;
         }
     }
     Ok(())
@@ -54,8 +131,8 @@ pub(crate) fn field_numbers(
     let mut numbers = Vec::with_capacity(alloc, items.len())?;
     for item in items {
         match item {
-            MessageItem::Field(field) => numbers.push(literal(field.get().declarator.number))?,
-            MessageItem::Map(map) => numbers.push(literal(map.get().declarator.number))?,
+            MessageItem::Field(field) => numbers.push(field.get().declarator.number.marked())?,
+            MessageItem::Map(map) => numbers.push(map.get().declarator.number.marked())?,
             MessageItem::Oneof(oneof) => put_members(&mut numbers, oneof.get().items.as_slice())?,
             _ => {}
         }
@@ -77,51 +154,51 @@ fn put_ranges<N: Copy>(
     Ok(())
 }
 
-/// The ranges that a message reserves, as they stand there.
-pub(crate) fn message_ranges_listed(
+/// The ranges that statements reserve, as they stand there.
+pub(crate) fn ranges_listed<'s, I: Reserves<'s>>(
     alloc: Global,
-    items: &[MessageItem],
-) -> Result<Vec<Range<NumberLiteral>>, AllocError>
+    items: &[I],
+) -> Result<Vec<Range<I::Number>>, AllocError>
     ensures { IfOk result (λ ranges. ranges.items
-        ≡ flat_map ranges_in (flat_map message_reserved items.now)) }
+        ≡ flat_map ranges_in (flat_map I.reserved_by items.now)) }
 {
     let mut ranges = Vec::new(alloc);
     for item in items {
-        if let MessageItem::Reserved(reserved) = item {
-            put_ranges(&mut ranges, &reserved.get().items)?;
+        if let Some(reserved) = item.reserved() {
+            put_ranges(&mut ranges, reserved)?;
         }
     }
     Ok(ranges)
 }
 
-fn message_range(range: &Range<NumberLiteral>) -> MarkedRange
-    ensures { result ≡ marked_range literal greatest_field_number range.now }
+/// The numbers of a range, in which `max` stands for the greatest number.
+fn marked_range<N: Literal>(range: &Range<N>, greatest: u128) -> MarkedRange
+    ensures { result ≡ marked_range N.mark greatest range.now }
 {
-    let start = range.start.value as u128;
+    let start = range.start.marked();
     let end = match range.last() {
-        Some(number) => number.value as u128,
-        None => FIELD_MAX,
+        Some(number) => number.marked().number,
+        None => greatest,
     };
     MarkedRange {
-        start,
+        start: start.number,
         end,
-        place: range.start.span.start,
+        place: start.place,
     }
 }
 
-/// The numbers of a message's ranges.
-pub(crate) fn message_ranges(
+/// The numbers of ranges, in which `max` stands for the greatest number.
+pub(crate) fn marked_ranges<N: Literal>(
     alloc: Global,
-    listed: &[Range<NumberLiteral>],
+    listed: &[Range<N>],
+    greatest: u128,
 ) -> Result<Vec<MarkedRange>, AllocError>
-    ensures { IfOk result (λ ranges. ranges.items
-        ≡ map (marked_range literal greatest_field_number) listed.now) }
+    ensures { IfOk result (λ ranges. ranges.items ≡ map (marked_range N.mark greatest) listed.now) }
 {
-    let mut ranges = Vec::with_capacity(alloc, listed.len())?;
-    for range in listed {
-        ranges.push(message_range(range))?;
-    }
-    Ok(ranges)
+    listed
+        .iter()
+        .map(|range| marked_range(range, greatest))
+        .collect(alloc)
 }
 
 /// The bounds of ranges, without `max`.
@@ -140,34 +217,17 @@ fn bounds_of<N: Copy>(alloc: Global, listed: &[Range<N>]) -> Result<Vec<N>, Allo
     Ok(bounds)
 }
 
-/// The bounds of a message's ranges, without `max`.
-pub(crate) fn message_bounds(
+/// The numbers of these bounds.
+pub(crate) fn marked_bounds<N: Literal>(
     alloc: Global,
-    listed: &[Range<NumberLiteral>],
+    listed: &[Range<N>],
 ) -> Result<Vec<MarkedNumber>, AllocError>
-    ensures { IfOk result (λ bounds. bounds.items ≡ map literal (flat_map bounds_of listed.now)) }
+    ensures { IfOk result (λ bounds. bounds.items ≡ map N.mark (flat_map bounds_of listed.now)) }
 {
     bounds_of(alloc, listed)?
         .iter()
-        .map(|number| literal(*number))
+        .map(|number| number.marked())
         .collect(alloc)
-}
-
-/// A number of an enum, counted from -2^64 on. Its place is that of its minus, if it has one.
-fn signed_number(number: SignedNumber) -> MarkedNumber
-    ensures { result ≡ signed_number number }
-{
-    let value = number.number.value as u128;
-    match number.minus {
-        None => MarkedNumber {
-            number: VALUE_ZERO + value,
-            place: number.number.span.start,
-        },
-        Some(minus) => MarkedNumber {
-            number: VALUE_ZERO - value,
-            place: minus.start,
-        },
-    }
 }
 
 /// The numbers of an enum's values.
@@ -180,69 +240,8 @@ pub(crate) fn value_numbers(
     let mut numbers = Vec::with_capacity(alloc, items.len())?;
     for item in items {
         if let EnumItem::Value(value) = item {
-            numbers.push(signed_number(value.get().number))?;
+            numbers.push(value.get().number.marked())?;
         }
     }
     Ok(numbers)
-}
-
-/// The ranges that an enum reserves, as they stand there.
-pub(crate) fn enum_ranges_listed(
-    alloc: Global,
-    items: &[EnumItem],
-) -> Result<Vec<Range<SignedNumber>>, AllocError>
-    ensures { IfOk result (λ ranges. ranges.items
-        ≡ flat_map ranges_in (flat_map enum_reserved items.now)) }
-{
-    let mut ranges = Vec::new(alloc);
-    for item in items {
-        if let EnumItem::Reserved(reserved) = item {
-            put_ranges(&mut ranges, &reserved.get().items)?;
-        }
-    }
-    Ok(ranges)
-}
-
-fn enum_range(range: &Range<SignedNumber>) -> MarkedRange
-    ensures { result ≡ marked_range signed_number greatest_value range.now }
-{
-    let start = signed_number(range.start);
-    let end = match range.last() {
-        Some(number) => signed_number(number).number,
-        None => VALUE_MAX,
-    };
-    MarkedRange {
-        start: start.number,
-        end,
-        place: start.place,
-    }
-}
-
-/// The numbers of an enum's ranges.
-pub(crate) fn enum_ranges(
-    alloc: Global,
-    listed: &[Range<SignedNumber>],
-) -> Result<Vec<MarkedRange>, AllocError>
-    ensures { IfOk result (λ ranges. ranges.items
-        ≡ map (marked_range signed_number greatest_value) listed.now) }
-{
-    let mut ranges = Vec::with_capacity(alloc, listed.len())?;
-    for range in listed {
-        ranges.push(enum_range(range))?;
-    }
-    Ok(ranges)
-}
-
-/// The bounds of an enum's ranges, without `max`.
-pub(crate) fn enum_bounds(
-    alloc: Global,
-    listed: &[Range<SignedNumber>],
-) -> Result<Vec<MarkedNumber>, AllocError>
-    ensures { IfOk result (λ bounds. bounds.items
-        ≡ map signed_number (flat_map bounds_of listed.now)) }
-{
-    bounds_of(alloc, listed)?
-        .iter()
-        .map(|number| signed_number(*number))
-        .collect(alloc)
 }

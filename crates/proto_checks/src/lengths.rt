@@ -57,54 +57,62 @@ fn members_fault<D: Declares>(limits: &Limits, scope_len: usize, members: &[D]) 
     first
 }
 
-fn enum_fault(limits: &Limits, scope_len: usize, declared: &EnumDesc) -> Option<Spot>
-    ensures { (scope : List ℕ) → scope_len ≡ capped scope
-        → IsLeast (Each (declared_by_enum scope declared.now) (IsTooLong limits.now)) result }
-{
-    let own = name_fault(limits, scope_len, declared.name.as_str(), declared.place);
-    let values = members_fault(limits, scope_len, declared.values.as_slice());
-    lesser(own, values)
+/// What declares names, its own among them.
+pub(crate) trait DeclaresAll {
+    ghost use Rattle.std.specs.Prelude.{◌≡◌, ℕ, List};
+    ghost use Rattle.proto_desc.specs.DeclaredNames.{Declared};
+    ghost use Rattle.proto_base.specs.Least.{IsLeast};
+    ghost use Rattle.proto_base.specs.Sets.{Each};
+    ghost use Rattle.proto_checks.specs.Checks.{IsTooLong};
+    ghost use Rattle.proto_checks.specs.Lengths.{capped};
+
+    /// These names, in a scope.
+    ghost declares: { List ℕ → Self → List Declared };
+
+    /// The first of them that is too long.
+    fn length_fault(&self, limits: &Limits, scope_len: usize) -> Option<Spot>
+        ensures { (scope : List ℕ) → scope_len ≡ capped scope
+            → IsLeast (Each (declares scope self.now) (IsTooLong limits.now)) result };
 }
 
-/// The first name that is too long of enums and their values.
-pub(crate) fn enums_fault(limits: &Limits, scope_len: usize, enums: &[EnumDesc]) -> Option<Spot>
-    ensures { (scope : List ℕ) → scope_len ≡ capped scope
-        → IsLeast (Each (flat_map (declared_by_enum scope) enums.now) (IsTooLong limits.now))
-        result }
-{
-    let mut first = None;
-    for declared in enums {
-        first = lesser(first, enum_fault(limits, scope_len, declared));
-    }
-    first
-}
-
-fn service_fault(limits: &Limits, scope_len: usize, service: &ServiceDesc) -> Option<Spot>
-    ensures { (scope : List ℕ) → scope_len ≡ capped scope
-        → IsLeast (Each (declared_by_service scope service.now) (IsTooLong limits.now)) result }
-{
-    let name = service.name.as_str();
-    let own = name_fault(limits, scope_len, name, service.place);
-    let len = full_len(scope_len, name);
-    let methods = members_fault(limits, len, service.methods.as_slice());
-    lesser(own, methods)
-}
-
-/// The first name that is too long of services and their methods.
-pub(crate) fn services_fault(
+/// The first name that is too long of elements and of what stands in them.
+pub(crate) fn first_length_fault<D: DeclaresAll>(
     limits: &Limits,
     scope_len: usize,
-    services: &[ServiceDesc],
+    elements: &[D],
 ) -> Option<Spot>
     ensures { (scope : List ℕ) → scope_len ≡ capped scope
-        → IsLeast (Each (flat_map (declared_by_service scope) services.now) (IsTooLong limits.now))
-        result }
+        → IsLeast (Each (flat_map (D.declares scope) elements.now) (IsTooLong limits.now)) result }
 {
     let mut first = None;
-    for service in services {
-        first = lesser(first, service_fault(limits, scope_len, service));
+    for element in elements {
+        first = lesser(first, element.length_fault(limits, scope_len));
     }
     first
+}
+
+/// An enum and its values.
+impl DeclaresAll for EnumDesc<'_> {
+    ghost declares = { declared_by_enum };
+
+    fn length_fault(&self, limits: &Limits, scope_len: usize) -> Option<Spot> {
+        let own = name_fault(limits, scope_len, self.name.as_str(), self.place);
+        let values = members_fault(limits, scope_len, self.values.as_slice());
+        lesser(own, values)
+    }
+}
+
+/// A service and its methods.
+impl DeclaresAll for ServiceDesc<'_> {
+    ghost declares = { declared_by_service };
+
+    fn length_fault(&self, limits: &Limits, scope_len: usize) -> Option<Spot> {
+        let name = self.name.as_str();
+        let own = name_fault(limits, scope_len, name, self.place);
+        let len = full_len(scope_len, name);
+        let methods = members_fault(limits, len, self.methods.as_slice());
+        lesser(own, methods)
+    }
 }
 
 /// The first name that is too long of what stands in a message, but for the messages within it.
@@ -121,7 +129,7 @@ fn inside_fault(
 {
     let field = members_fault(limits, scope_len, fields);
     let oneof = members_fault(limits, scope_len, oneofs);
-    let declared = enums_fault(limits, scope_len, enums);
+    let declared = first_length_fault(limits, scope_len, enums);
     let member = lesser(field, oneof);
     lesser(member, declared)
 }
@@ -144,19 +152,10 @@ fn message_fault(limits: &Limits, scope_len: usize, message: &MessageDesc) -> Op
     first
 }
 
-/// The first name that is too long of messages and of all within them.
-pub(crate) fn messages_fault(
-    limits: &Limits,
-    scope_len: usize,
-    messages: &[MessageDesc],
-) -> Option<Spot>
-    ensures { (scope : List ℕ) → scope_len ≡ capped scope
-        → IsLeast (Each (flat_map (λ m. declared_by_message m scope) messages.now)
-        (IsTooLong limits.now)) result }
-{
-    let mut first = None;
-    for message in messages {
-        first = lesser(first, message_fault(limits, scope_len, message));
+impl DeclaresAll for MessageDesc<'_> {
+    ghost declares = { λ scope message. declared_by_message message scope };
+
+    fn length_fault(&self, limits: &Limits, scope_len: usize) -> Option<Spot> {
+        message_fault(limits, scope_len, self)
     }
-    first
 }

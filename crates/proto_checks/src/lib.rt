@@ -7,6 +7,7 @@ mod aliases;
 mod body;
 mod bounds;
 mod covers;
+mod each;
 mod enumeration;
 mod field_options;
 mod file;

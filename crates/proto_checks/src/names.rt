@@ -6,6 +6,7 @@ ghost use Rattle.proto_checks.specs.Checks.{json_mark, EnumNamesBreak, MessageNa
 ghost use Rattle.proto_base.specs.Least.{IsLeast};
 ghost use Rattle.proto_base.specs.Sets.{Each};
 
+use crate::each::{Check, first_of};
 use crate::marks::{HasText, MarkedText};
 use crate::repeats::first_text_twice;
 use crate::reserved_names::first_reserved_name;
@@ -28,20 +29,17 @@ impl<'s> HasText for FieldDesc<'s> {
     }
 }
 
-/// The first value of an enum whose name the enum reserves.
-pub(crate) fn enum_names_fault(
-    alloc: Global,
-    enums: &[EnumDesc],
-) -> Result<Option<Spot>, AllocError>
-    ensures { IfOk result (λ first. IsLeast (Each enums.now EnumNamesBreak) first) }
-{
-    let mut first = None;
-    for declared in enums {
-        let reserved = declared.reserved_names.as_slice();
-        let here = first_reserved_name(alloc, reserved, declared.values.as_slice())?;
-        first = lesser(first, here);
+/// The first value whose name the enum reserves.
+impl Check for EnumDesc<'_> {
+    ghost breaks = { EnumNamesBreak };
+
+    fn first_fault(&self, alloc: Global) -> Result<Option<Spot>, AllocError> {
+        first_reserved_name(
+            alloc,
+            self.reserved_names.as_slice(),
+            self.values.as_slice(),
+        )
     }
-    Ok(first)
 }
 
 /// The first fault of the names of a message, without those of the messages within it.
@@ -60,16 +58,13 @@ fn own_names_fault(
 {
     let json = first_text_twice(alloc, Kind::JsonNameTwice, fields)?;
     let field = first_reserved_name(alloc, reserved, fields)?;
-    let value = enum_names_fault(alloc, enums)?;
+    let value = first_of(alloc, enums)?;
     let first = lesser(json, field);
     Ok(lesser(first, value))
 }
 
 /// The first fault of the names of a message and of the messages within it.
-pub(crate) fn message_names_fault(
-    alloc: Global,
-    message: &MessageDesc,
-) -> Result<Option<Spot>, AllocError>
+fn message_names_fault(alloc: Global, message: &MessageDesc) -> Result<Option<Spot>, AllocError>
     ensures { IfOk result (λ first. IsLeast (Each (names_of message.now) MessageNamesBreak) first) }
 {
     let fields = message.fields.as_slice();
@@ -79,4 +74,12 @@ pub(crate) fn message_names_fault(
         first = lesser(first, message_names_fault(alloc, nested)?);
     }
     Ok(first)
+}
+
+impl Check for MessageDesc<'_> {
+    ghost breaks = { λ message. Each (names_of message) MessageNamesBreak };
+
+    fn first_fault(&self, alloc: Global) -> Result<Option<Spot>, AllocError> {
+        message_names_fault(alloc, self)
+    }
 }

@@ -4,19 +4,20 @@
 ghost use Rattle.std.specs.Prelude.{IfOk, flat_map};
 ghost use Rattle.proto_options.specs.Options.{enum_setting, first_setting};
 ghost use Rattle.proto_desc.specs.Rules.{allow_alias};
+ghost use Rattle.proto_options.specs.Statements.{ranges_in};
 ghost use Rattle.proto_base.specs.Least.{IsLeast};
-ghost use Rattle.proto_checks.specs.Numbers.{FirstNotZero, FieldNumbersBreak, EnumNumbersBreak, RangesBreak, ValueTwice, OwnFieldNumbersBreak, MessageRangesBreak, OwnValueNumbersBreak, EnumRangesBreak};
+ghost use Rattle.proto_checks.specs.Numbers.{FirstNotZero, FieldNumbersBreak, EnumNumbersBreak, RangesBreak, ValueTwice, OwnFieldNumbersBreak, OwnValueNumbersBreak, ReservedRangesBreak};
 
 use crate::aliases::is_aliasing;
 use crate::bounds::{first_no_field_number, first_outside};
 use crate::gathered::{
-    FIELD_MAX, VALUE_MAX, VALUE_MIN, VALUE_ZERO, enum_bounds, enum_ranges, enum_ranges_listed,
-    field_numbers, message_bounds, message_ranges, message_ranges_listed, value_numbers,
+    FIELD_MAX, Reserves, VALUE_MAX, VALUE_MIN, VALUE_ZERO, field_numbers, marked_bounds,
+    marked_ranges, ranges_listed, value_numbers,
 };
 use crate::marks::{MarkedNumber, MarkedRange};
 use crate::ranges::{first_backwards, first_overlap, first_reserved_number};
 use crate::repeats::first_number_twice;
-use crate::reserved_names::{enum_reserved_names, first_reserved_twice, message_reserved_names};
+use crate::reserved_names::{first_reserved_twice, reserved_names};
 use proto_base::{Kind, Spot, lesser};
 use proto_tree::{EnumItem, MessageItem};
 use std::alloc::{AllocError, Global};
@@ -46,21 +47,27 @@ fn first_own_field_number_fault(
     Ok(lesser(number, twice))
 }
 
-/// The first rule that the ranges which a message reserves break, and the numbers of its fields with them.
-fn first_message_range_fault(
+/// The first rule that the ranges which statements reserve break, and the numbers in use with them. The bounds of ranges
+/// lie from the least to the greatest number, or are faults of this kind.
+fn first_reserved_range_fault<'s, I: Reserves<'s>>(
     alloc: Global,
-    items: &[MessageItem],
+    items: &[I],
     numbers: &[MarkedNumber],
+    least: u128,
+    greatest: u128,
+    kind: Kind,
 ) -> Result<Option<Spot>, AllocError>
-    ensures { IfOk result (λ first. IsLeast (MessageRangesBreak items.now numbers.now) first) }
+    ensures { IfOk result (λ first. IsLeast
+        (ReservedRangesBreak I.Number.mark least greatest kind
+        (flat_map ranges_in (flat_map I.reserved_by items.now)) numbers.now) first) }
 {
-    let listed = message_ranges_listed(alloc, items)?;
+    let listed = ranges_listed(alloc, items)?;
     if listed.is_empty() {
         return Ok(None);
     }
-    let bounds = message_bounds(alloc, &listed)?;
-    let bound = first_outside(1, FIELD_MAX, Kind::FieldNumberRange, &bounds);
-    let ranges = message_ranges(alloc, &listed)?;
+    let bounds = marked_bounds(alloc, &listed)?;
+    let bound = first_outside(least, greatest, kind, &bounds);
+    let ranges = marked_ranges(alloc, &listed, greatest)?;
     let range = first_range_fault(alloc, &ranges, numbers)?;
     Ok(lesser(bound, range))
 }
@@ -74,8 +81,9 @@ pub(crate) fn first_field_number_fault(
 {
     let numbers = field_numbers(alloc, items)?;
     let own = first_own_field_number_fault(alloc, &numbers)?;
-    let range = first_message_range_fault(alloc, items, &numbers)?;
-    let names = message_reserved_names(alloc, items)?;
+    let kind = Kind::FieldNumberRange;
+    let range = first_reserved_range_fault(alloc, items, &numbers, 1, FIELD_MAX, kind)?;
+    let names = reserved_names(alloc, items)?;
     let name = first_reserved_twice(alloc, &names)?;
     let first = lesser(own, range);
     Ok(lesser(first, name))
@@ -126,25 +134,6 @@ fn first_own_value_number_fault(
     Ok(lesser(first, twice))
 }
 
-/// The first rule that the ranges which an enum reserves break, and the numbers of its values with them.
-fn first_enum_range_fault(
-    alloc: Global,
-    items: &[EnumItem],
-    numbers: &[MarkedNumber],
-) -> Result<Option<Spot>, AllocError>
-    ensures { IfOk result (λ first. IsLeast (EnumRangesBreak items.now numbers.now) first) }
-{
-    let listed = enum_ranges_listed(alloc, items)?;
-    if listed.is_empty() {
-        return Ok(None);
-    }
-    let bounds = enum_bounds(alloc, &listed)?;
-    let bound = first_outside(VALUE_MIN, VALUE_MAX, Kind::EnumNumberRange, &bounds);
-    let ranges = enum_ranges(alloc, &listed)?;
-    let range = first_range_fault(alloc, &ranges, numbers)?;
-    Ok(lesser(bound, range))
-}
-
 /// The first rule on numbers that the statements of an enum break.
 pub(crate) fn first_enum_number_fault(
     alloc: Global,
@@ -154,8 +143,9 @@ pub(crate) fn first_enum_number_fault(
 {
     let numbers = value_numbers(alloc, items)?;
     let own = first_own_value_number_fault(alloc, items, &numbers)?;
-    let range = first_enum_range_fault(alloc, items, &numbers)?;
-    let names = enum_reserved_names(alloc, items)?;
+    let kind = Kind::EnumNumberRange;
+    let range = first_reserved_range_fault(alloc, items, &numbers, VALUE_MIN, VALUE_MAX, kind)?;
+    let names = reserved_names(alloc, items)?;
     let name = first_reserved_twice(alloc, &names)?;
     let first = lesser(own, range);
     Ok(lesser(first, name))

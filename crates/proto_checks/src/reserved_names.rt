@@ -1,21 +1,22 @@
 //! Reserved names: that none is reserved twice, and that none is in use.
 
-ghost use Rattle.std.specs.Prelude.{◌≡◌, ◌↔◌, [], ◌∷◌, ◌++◌, Contains, IfOk, IfSome, IsTrue, OnOk, map};
+ghost use Rattle.std.specs.Prelude.{◌≡◌, ◌↔◌, ◌++◌, Contains, IfOk, IfSome, IsTrue, OnOk, flat_map, map};
 ghost use Rattle.proto_base.specs.declared.kind.Kind.TheVariants.{ReservedNameTwice};
-ghost use Rattle.proto_checks.specs.Gathered.{reserved_name, message_reserved_names, enum_reserved_names};
+ghost use Rattle.proto_checks.specs.Gathered.{reserved_name};
 ghost use Rattle.proto_options.specs.Statements.{names_in};
 ghost use Rattle.proto_base.specs.Least.{IsLeast};
 ghost use Rattle.proto_checks.specs.Marks.{TextTwice, ReservedNameUsed};
 ghost use Rattle.proto_checks.specs.NameSets.{HoldsJust};
 ghost use Rattle.proto_checks.specs.Parts.{name_mark};
 
+use crate::gathered::Reserves;
 use crate::marks::{HasText, MarkedText};
 use crate::repeats::{FEW, first_text_twice};
 use proto_base::text::Text;
 use proto_base::{Kind, Place, Spot, lesser};
 use proto_desc::Declares;
+use proto_tree::ReservedItems;
 use proto_tree::text::joined;
-use proto_tree::{EnumItem, MessageItem, ReservedItems, StringValue};
 use std::alloc::{AllocError, Global};
 use std::collections::BTreeSet;
 use std::marker::Model;
@@ -65,33 +66,18 @@ fn put_names<'s, N>(
     Ok(())
 }
 
-/// The names that a message reserves.
-pub(crate) fn message_reserved_names<'s>(
+/// The names that statements reserve.
+pub(crate) fn reserved_names<'s, I: Reserves<'s>>(
     alloc: Global,
-    items: &[MessageItem<'s>],
+    items: &[I],
 ) -> Result<Vec<ReservedName<'s>>, AllocError>
-    ensures { IfOk result (λ names. names.items ≡ message_reserved_names items.now) }
+    ensures { IfOk result (λ names. names.items
+        ≡ map reserved_name (flat_map names_in (flat_map I.reserved_by items.now))) }
 {
     let mut names = Vec::new(alloc);
     for item in items {
-        if let MessageItem::Reserved(reserved) = item {
-            put_names(alloc, &mut names, &reserved.get().items)?;
-        }
-    }
-    Ok(names)
-}
-
-/// The names that an enum reserves.
-pub(crate) fn enum_reserved_names<'s>(
-    alloc: Global,
-    items: &[EnumItem<'s>],
-) -> Result<Vec<ReservedName<'s>>, AllocError>
-    ensures { IfOk result (λ names. names.items ≡ enum_reserved_names items.now) }
-{
-    let mut names = Vec::new(alloc);
-    for item in items {
-        if let EnumItem::Reserved(reserved) = item {
-            put_names(alloc, &mut names, &reserved.get().items)?;
+        if let Some(reserved) = item.reserved() {
+            put_names(alloc, &mut names, reserved)?;
         }
     }
     Ok(names)

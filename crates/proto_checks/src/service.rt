@@ -1,11 +1,12 @@
 //! Rules on services and methods.
 
-ghost use Rattle.std.specs.Prelude.{IfOk, flat_map};
+ghost use Rattle.std.specs.Prelude.{IfOk};
 ghost use Rattle.proto_options.specs.Statements.{service_rpc};
 ghost use Rattle.proto_checks.specs.Elements.{RpcBreaks, ServiceBreaks};
 ghost use Rattle.proto_base.specs.Least.{IsLeast};
 ghost use Rattle.proto_base.specs.Sets.{Each};
 
+use crate::each::{Check, first_of};
 use crate::settings::statement_settings_fault;
 use proto_base::{Spot, lesser};
 use proto_desc::rules::Element;
@@ -19,17 +20,15 @@ fn method_fault(alloc: Global, rpc: &Rpc) -> Result<Option<Spot>, AllocError>
     statement_settings_fault(alloc, Element::Method, rpc_items(&rpc.body))
 }
 
-fn methods_fault(alloc: Global, items: &[ServiceItem]) -> Result<Option<Spot>, AllocError>
-    ensures { IfOk result (λ first. IsLeast (Each (flat_map service_rpc items.now) RpcBreaks)
-        first) }
-{
-    let mut first = None;
-    for item in items {
-        if let ServiceItem::Rpc(rpc) = item {
-            first = lesser(first, method_fault(alloc, rpc.get())?);
+impl Check for ServiceItem<'_> {
+    ghost breaks = { λ item. Each (service_rpc item) RpcBreaks };
+
+    fn first_fault(&self, alloc: Global) -> Result<Option<Spot>, AllocError> {
+        match self {
+            ServiceItem::Rpc(rpc) => method_fault(alloc, rpc.get()),
+            ServiceItem::Option(_) | ServiceItem::Empty(_) => Ok(None),
         }
     }
-    Ok(first)
 }
 
 /// The first fault of a service.
@@ -38,6 +37,6 @@ pub(crate) fn service_fault(alloc: Global, service: &Service) -> Result<Option<S
 {
     let items = service.items.as_slice();
     let own = statement_settings_fault(alloc, Element::Service, items)?;
-    let methods = methods_fault(alloc, items)?;
+    let methods = first_of(alloc, items)?;
     Ok(lesser(own, methods))
 }

@@ -1,20 +1,10 @@
 pub mod Alike
-pub mod Answering
-pub mod DescPlaces
-pub mod FaultOrder
-pub mod Judging
 pub mod LeastFault
 pub mod Making
-pub mod MessagePlaces
-pub mod NoneBroken
 pub mod OneCompilation
-pub mod OneOrder
 pub mod OneTyping
 pub mod Placing
 pub mod Rising
-pub mod Serving
 pub mod Sorting
 mod Tabling
-pub mod Twice
 pub mod Within
-pub mod Zipping

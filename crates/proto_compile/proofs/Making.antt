@@ -1,44 +1,95 @@
 -- What sources are compiled to.
-use Rattle.std.proofs.Common.{◌≡◌, ◌∙◌, sym, ap, subst, refl, ℕ, ◌<◌, ◌≤◌, List, map, length, arith, All}
+use Rattle.std.proofs.Common.{◌≡◌, ◌∙◌, sym, ap, subst, refl, ℕ, ◌<◌, ◌≤◌, List, map, length, arith, All, ◌+◌, Bool, true, inl, inr, [], ◌∷◌, get_or, Option, Some, None, Contains, IsPermutation, filter}
 use Rattle.std.specs.List.{AllZip}
-use Rattle.std.specs.Prelude.{Contains, IsPermutation, Vec}
-use Rattle.std.specs.declared.alloc.Global.{Global}
-use Rattle.std.proofs.lemmas.List.{length-map}
+use Rattle.std.proofs.lemmas.List.{length-map, get_or_default}
 use Rattle.proto_desc.specs.declared.file.FileDesc.{FileDesc}
 use Rattle.proto_links.specs.Imports as imports
-use Rattle.proto_links.specs.Linked.{AreLinked, Linked, count_of}
-use Rattle.proto_names.specs.Index.{Index, Indexes, services_of}
+use Rattle.proto_links.specs.Linked.{Linked, count_of}
+use Rattle.proto_names.specs.Index as index_names
+use Rattle.proto_names.specs.Index.{Index, Indexes, services_of, is_service_kind}
 use Rattle.proto_base.specs.Limits.{limit_of}
 use Rattle.proto_base.specs.declared.limits.Limit.TheVariants as limit
 use Rattle.proto_base.specs.declared.limits.Limits.{Limits}
 use Rattle.wire_bytes.specs.Descriptor.{file_desc_bytes}
-use Rattle.proto_compile.specs.Analysed.{AreResolved, AreTypedFrom}
+use Rattle.proto_compile.specs.Analysed.{AreResolved}
 use Rattle.proto_compile.specs.Compilation.{CompiledFile, IsShort, IsWritten, file_bytes, file_name, set_of}
 use Rattle.proto_compile.specs.Sound.{IsSound}
 use Rattle.proto_compile.specs.Descriptions.{SourceDescribes}
-use Rattle.proto_compile.specs.Sources.{AreByName, name_of}
-use Rattle.proto_compile.specs.Steps.{compilation, items_of}
+use Rattle.proto_compile.specs.Sources.{name_of}
+use Rattle.proto_compile.specs.Steps.{compilation}
 use Rattle.proto_compile.specs.declared.source.Source.{Source}
 use Rattle.proto_compile.proofs.Rising.{named_once}
-use Rattle.proto_compile.proofs.Serving.{index_few, index_short}
-use Rattle.proto_compile.proofs.Zipping as zipped
+use Rattle.proto_compile.proofs.OneTyping as zipped
+use Rattle.std.proofs.lemmas.Bool.{cases_lt, false≢true}
+use Rattle.std.proofs.lemmas.List.Elements.{All-append, All-contains, All-map, All-nil}
+use Rattle.std.proofs.lemmas.List.Sorted.{All-permutation, Contains-permutation, IsPermutation-sym, length_permutation}
+use Rattle.std.proofs.lemmas.List.Sums.{count_by-le-length, length-filter}
+use Rattle.proto_checks.specs.Checks.{FileBreaks}
+use Rattle.proto_base.specs.Least.{spot}
+use Rattle.proto_desc.specs.DeclaredNames.{declared_by, full_name}
+use Rattle.proto_desc.specs.declared.file.PackageDesc.{PackageDesc}
+use Rattle.proto_names.specs.Occurrences.{Occurrence, declared_occurrence, occurrences, occurrences_from, occurrences_of, package_occurrence, package_occurrences}
+use Rattle.proto_names.specs.Scopes.{prefixes}
+use Rattle.proto_base.specs.declared.kind.Kind.TheVariants as kind
+use Rattle.share_work.proofs.Sums.{of_filter, of_map}
 
--- what the passes up to types find, where each of them takes what the one before gave
-pub resolved_of : {limits : Limits} {sources files : List Source} {descs links_descs index_descs typed : List FileDesc}
-    {links : Linked} {index : Index} → length sources ≤ limit_of limits limit.Files → AreByName sources files
-    → AllZip (SourceDescribes limits) files descs → links_descs ≡ descs
-    → AreLinked links_descs links → index_descs ≡ descs → Indexes index_descs limits index
-    → AreTypedFrom links index 0 descs typed → AreResolved limits sources files typed links index
-resolved_of {limits = limits} {descs = descs} {links = links} {index = index} few order each same_links linked
-    same_index indexed typed = record {
-      descs = descs;
-      analysed = record {
-        described = record { few = few; by_name = order; each = each };
-        linked = subst (λ (ds : List FileDesc). AreLinked ds links) same_links linked;
-        indexed = subst (λ (ds : List FileDesc). Indexes ds limits index) same_index indexed;
-      };
-      each = typed;
-    }
+-- ---- the names of services: no more than those of the files, and none longer than a full name may be
+
+abbrev is_service : Occurrence → Bool
+is_service o = is_service_kind o.kind
+
+-- a service has a name of no more bytes
+abbrev IsShortService : ℕ → Occurrence → Type 0
+IsShortService n o = is_service o ≡ true → length o.name ≤ n
+
+-- ---- what files declare
+
+package_short : (n file : ℕ) (p : Option PackageDesc) → All (IsShortService n) (package_occurrences file p)
+package_short n file None = All-nil (IsShortService n)
+package_short n file (Some p) = All-map (IsShortService n) (package_occurrence file p.place) (prefixes p.name)
+    (λ k d h service. absurd (false≢true service))
+
+module _ (limits : Limits) where
+  abbrev Fits : Occurrence → Type 0
+  Fits = IsShortService (limit_of limits limit.FullNameBytes)
+
+  file_short : (a : ℕ) (s : Source) (desc : FileDesc) → SourceDescribes limits s desc → All Fits (occurrences_of a desc)
+  unfolding FileBreaks
+  file_short a s desc (file, is, unbroken, made) =
+      All-append Fits (package_occurrences a desc.«package») (map (declared_occurrence a) (declared_by desc))
+      (package_short (limit_of limits limit.FullNameBytes) a desc.«package»)
+      (All-map Fits (declared_occurrence a) (declared_by desc) (λ k d h service. (
+      let e = get_or (declared_by desc) k d in
+      let stands = subst (λ (f : FileDesc). (k < length (declared_by f)) × (get_or (declared_by f) k e ≡ e)) made
+      (h, get_or_default (declared_by desc) k e d h) in
+      elim (cases_lt (limit_of limits limit.FullNameBytes) (length (full_name e))) [
+        | inl long ↦ absurd (unbroken (spot e.place kind.NameTooLong) (inr (inr (k, e, stands, (inr long, refl)))))
+        | inr most ↦ most
+      ])))
+
+  files_short : (a : ℕ) (files : List Source) (descs : List FileDesc) → AllZip (SourceDescribes limits) files descs
+      → All Fits (occurrences_from a descs)
+  files_short a [] [] all = All-nil Fits
+  files_short a (s ∷ files) (desc ∷ descs) all =
+      All-append Fits (occurrences_of a desc) (occurrences_from (a + 1) descs) (file_short a s desc all.0)
+      (files_short (a + 1) files descs all.1)
+  files_short a files descs all = absurd all
+
+  -- ---- the services of an index
+
+  index_short : (files : List Source) (descs : List FileDesc) (index : Index)
+      → AllZip (SourceDescribes limits) files descs → Indexes descs limits index
+      → IsPermutation (services_of index.occurrences) index.services
+      → (name : List ℕ) → Contains index.services name → length name ≤ limit_of limits limit.FullNameBytes
+  index_short files descs index all is services name has =
+      let back = IsPermutation-sym (services_of index.occurrences) index.services services in
+      let (o, here, same) = of_map index_names.name_of (filter is_service index.occurrences) name
+      (Contains-permutation index.services (services_of index.occurrences) name back has) in
+      let (within, service) = of_filter is_service index.occurrences o here in
+      let short = All-permutation Fits (occurrences descs) index.occurrences is.all (files_short 0 files descs all) in
+      rw (← same) (All-contains Fits index.occurrences o short within service)
+
+-- ---- what the passes give
 
 -- what links and the index count, and what set order has
 pub counts : (limits : Limits) (sources sorted : List Source) (descs : List FileDesc) (links : Linked) (index : Index)
@@ -81,6 +132,7 @@ pub sound : (limits : Limits) (sources : List Source) (files : List CompiledFile
     → length (set_of files links) ≤ limit_of limits limit.SetBytes → IsSound (compilation limits files links index)
 sound limits sources files links index is services within =
     let analysed = is.resolved.analysed in
+    let indexed = analysed.indexed in
     let counted = counts limits sources is.sorted is.descs links index files is.resolved is.names in
     record {
       linked = counted.0;
@@ -88,12 +140,6 @@ sound limits sources files links index is services within =
       inside = counted.2;
       once = named_once is.sorted files analysed.described.by_name.rises is.names;
       within = within;
-      few_services = index_few limits is.resolved.descs index analysed.indexed services;
-      short_services = index_short limits is.sorted is.resolved.descs index analysed.described.each analysed.indexed
-          services;
+      few_services = grind (arith, length_permutation, length-map, count_by-le-length, length-filter);
+      short_services = index_short limits is.sorted is.resolved.descs index analysed.described.each indexed services;
     }
-
--- as many sources as written descriptors
-pub written_length : (files : List Source) (descs : List FileDesc) (all : List (Vec ℕ Global))
-    → length files ≡ length descs → map items_of all ≡ map file_desc_bytes descs → length files ≡ length all
-written_length files descs all size bytes = grind (arith, length-map)

@@ -1,15 +1,24 @@
--- Sources in the order of their names.
-use Rattle.std.proofs.Common.{◌≡◌, ◌≢◌, ◌∙◌, sym, ℕ, ◌+◌, ◌-◌, ◌<◌, List, [], ◌∷◌, length, get_or, ap, arith, Ordering, Less, Equal, Greater, false}
-use Rattle.std.specs.Prelude.{IsSorted}
+-- Sources in the order of their names, which is one; names that stand twice among them; and sorted names.
+use Rattle.std.proofs.Common.{◌≡◌, ◌≢◌, ◌∙◌, sym, ℕ, suc, ◌+◌, ◌<◌, ◌≤◌, ◌⊎◌, inl, inr, List, [], ◌∷◌, length, take, get_or, map, ap, refl, arith, Ordering, Less, Equal, Greater, false, Bool, Contains, IsPermutation, IsSorted, sum_by, nat_cmp, is_lt, get_or-take, length-take}
+use Rattle.std.specs.Cmp.{IsStrictWeakOrder}
 use Rattle.std.specs.Cmp.Lexicographic.{slice_cmp}
-use Rattle.std.specs.Ordering.{nat_cmp, is_lt}
-use Rattle.std.proofs.lemmas.Bool.{cases_lt}
-use Rattle.std.proofs.lemmas.Cmp.{nat_list_cmp_total}
-use Rattle.std.proofs.lemmas.List.{get_or-map, length-map}
+use Rattle.std.proofs.lemmas.Cmp.{nat_list_cmp_total, tied_itself}
+use Rattle.std.proofs.lemmas.List.{get_or_default, get_or-map, length-map}
+use Rattle.std.proofs.lemmas.List.MinMax.{ranks_by}
+use Rattle.std.proofs.lemmas.List.Sorted.{Contains-permutation, IsPermutation-map, IsPermutation-sym, sorted_far, sum_by-IsPermutation}
+use Rattle.std.proofs.lemmas.List.Sums.{get_or-le-sum_by, sum_by-cons, sum_by_more_le}
 use Rattle.std.proofs.lemmas.Map.Lookups.{exact_bytes}
+use Rattle.proto_base.specs.NameOrder.{NamesRise}
+use Rattle.proto_links.proofs.NameRows.{not_less_itself}
+use Rattle.proto_links.proofs.Rising.{IsStrict, Rises, one_rising, rest_rises}
 use Rattle.proto_compile.specs.Sources.{AreByName, name_at, name_of}
-use Rattle.proto_compile.specs.Faults.{AreSorted, IsFirstRepeated}
+use Rattle.proto_compile.specs.Faults.{AreSorted}
 use Rattle.proto_compile.specs.declared.source.Source.{Source}
+
+-- the first of a list that has one
+pub first_of : {X : Type 0} (xs : List X) (k : ℕ) → k < length xs → X
+first_of [] k h = absurd (omega (arith, h))
+first_of (x ∷ xs) k h = x
 
 pub name_is : (files : List Source) (k : ℕ) (d : Source) → k < length files
     → name_at files k ≡ name_of (get_or files k d)
@@ -19,45 +28,169 @@ pub name_of_item : (files : List Source) (k : ℕ) (s : Source) → k < length f
     → name_at files k ≡ name_of s
 name_of_item files k s h is = name_is files k s h ∙ ap name_of (sym is)
 
+-- ---- sources by name
+
+abbrev IsNameBefore : Source → Source → Type 0
+IsNameBefore a b = slice_cmp nat_cmp (name_of a) (name_of b) ≡ Less
+
+names_strict : IsStrict IsNameBefore
+names_strict = grind (arith, nat_list_cmp_total, not_less_itself)
+
+sources_rise : (files : List Source) → NamesRise (map name_of files) → Rises IsNameBefore files
+sources_rise files up k d h = grind (arith, length-map, name_is)
+
+-- members of one order of a list are members of another one
+pub moved : {X : Type 0} {xs ys zs : List X} → IsPermutation xs ys → IsPermutation xs zs → (x : X) → Contains ys x
+    → Contains zs x
+moved {xs = xs} {ys = ys} {zs = zs} first second x w =
+    Contains-permutation xs zs x second (Contains-permutation ys xs x (IsPermutation-sym xs ys first) w)
+
+-- the sources have one order by name
+pub one_order : (sources f g : List Source) → AreByName sources f → AreByName sources g → f ≡ g
+one_order sources f g first second =
+    one_rising IsNameBefore names_strict f g (sources_rise f first.rises) (sources_rise g second.rises)
+    (moved first.all second.all) (moved second.all first.all)
+
+-- ---- sorted names
+
+abbrev is_less : List ℕ → List ℕ → Bool
+is_less x y = is_lt (slice_cmp nat_cmp x y)
+
+less_order : IsStrictWeakOrder is_less
+less_order = ranks_by nat_list_cmp_total (λ n. n)
+
 -- no name is less than the one before it
-pub not_greater : (xs ys : List ℕ) → is_lt (slice_cmp nat_cmp ys xs) ≡ false → slice_cmp nat_cmp xs ys ≢ Greater
+pub not_greater : (xs ys : List ℕ) → is_less ys xs ≡ false → slice_cmp nat_cmp xs ys ≢ Greater
 not_greater xs ys h g = grind (arith, nat_list_cmp_total)
 
-less_left : (o : Ordering) → o ≢ Greater → o ≢ Equal → o ≡ Less
-less_left o g e = grind (arith)
+not_less : (xs ys : List ℕ) → slice_cmp nat_cmp xs ys ≢ Greater → is_less ys xs ≡ false
+not_less xs ys h = grind (arith, nat_list_cmp_total)
+
+same_name : (x y : List ℕ) → is_less x y ≡ false → is_less y x ≡ false → x ≡ y
+same_name x y h k = grind (arith, nat_list_cmp_total, exact_bytes)
 
 -- sorted names that differ rise
 pub strictly : (sources files : List Source) → AreSorted sources files
     → ((k : ℕ) → k + 1 < length files → name_at files k ≢ name_at files (k + 1)) → AreByName sources files
 strictly sources files sorted differ = record {
   all = sorted.all;
-  rises = λ k h. (let below : k + 1 < length files = omega (arith, h, length-map files name_of) in
-      less_left _ (sorted.rises k below) (λ e. differ k below (exact_bytes _ _ e)));
+  rises = λ k h. grind (arith, length-map, exact_bytes, sorted.rises k, differ k);
 }
-
-pub first_of : (files : List Source) (k : ℕ) → k < length files → Source
-first_of [] k h = absurd (omega (arith, h))
-first_of (s ∷ files) k h = s
 
 -- sources in an order that begins with the names
 pub sorted_names : (cmp : Source → Source → Ordering) (files : List Source)
-    → ((a b : Source) → is_lt (cmp a b) ≡ false → is_lt (slice_cmp nat_cmp (name_of a) (name_of b)) ≡ false)
-    → IsSorted cmp files
+    → ((a b : Source) → is_lt (cmp a b) ≡ false → is_less (name_of a) (name_of b) ≡ false) → IsSorted cmp files
     → (k : ℕ) → k + 1 < length files → slice_cmp nat_cmp (name_at files k) (name_at files (k + 1)) ≢ Greater
 sorted_names cmp files finer up k h =
     let d = first_of files (k + 1) h in
-    rw (name_is files k d (omega (arith, h)), name_is files (k + 1) d h)
-    (not_greater (name_of (get_or files k d)) (name_of (get_or files (k + 1) d))
-    (finer (get_or files (k + 1) d) (get_or files k d) (up k d (omega arith) h)))
+    grind (arith, name_is files k d, name_is files (k + 1) d, not_greater, finer, up k d)
 
--- the first two neighbours of one name
-pub first_pair : (files : List Source) (n : ℕ) → 0 < n → n < length files
-    → name_at files (n - 1) ≡ name_at files (n - 1 + 1)
-    → ((j : ℕ) → j + 1 < n → name_at files j ≢ name_at files (j + 1)) → IsFirstRepeated files (n - 1)
-first_pair files n some h same before = grind (arith)
+-- of sorted sources, none has a name less than that of one before it
+pub not_before : (sources files : List Source) (k j : ℕ) → AreSorted sources files → k ≤ j → j < length files
+    → is_less (name_at files j) (name_at files k) ≡ false
+not_before sources files k j sorted most h =
+    let size = length-map files name_of in
+    sorted_far is_less less_order (map name_of files)
+    (λ i d low inside. grind (arith, length-map, get_or_default, not_less, sorted.rises i))
+    k j [] most (omega (arith, h, size))
 
--- one more pair of neighbours that differ
-pub pairs_more : (files : List Source) (n : ℕ) → 0 < n → (name_at files (n - 1) ≡ name_at files (n - 1 + 1) → ⊥)
-    → ((j : ℕ) → j + 1 < n → name_at files j ≢ name_at files (j + 1)) → (j : ℕ) → j + 1 < n + 1
-    → name_at files j ≢ name_at files (j + 1)
-pairs_more files n some other before j below = grind (arith, cases_lt)
+-- ---- names are counted
+
+abbrev one_where : Ordering → ℕ
+one_where Less = 0
+one_where Equal = 1
+one_where Greater = 0
+
+-- 1 for the name n
+abbrev hits : List ℕ → List ℕ → ℕ
+hits n x = one_where (slice_cmp nat_cmp x n)
+
+hit : (n x : List ℕ) → x ≡ n → hits n x ≡ 1
+hit n x e = grind (arith, nat_list_cmp_total, tied_itself)
+
+hit_or_none : (n x : List ℕ) → ((x ≡ n) × (hits n x ≡ 1)) ⊎ (hits n x ≡ 0)
+hit_or_none n x = grind (arith, exact_bytes)
+
+find : (ns : List (List ℕ)) (n : List ℕ) → 1 ≤ sum_by (hits n) ns → (i : ℕ) × (i < length ns) × (get_or ns i [] ≡ n)
+find [] n h = absurd (omega (arith, h))
+find (x ∷ ns) n h = elim (hit_or_none n x) [
+  | inl found ↦ (0, omega arith, found.0)
+  | inr none ↦ (
+      let r = find ns n (omega (arith, h, sum_by-cons (hits n) x ns, none)) in
+      (suc r.0, omega (arith, r.1), r.2))
+]
+
+-- ---- names that stand twice
+
+abbrev pub Two : List (List ℕ) → List ℕ → Type 0
+Two ns n = (i : ℕ) × (j : ℕ) × (i < j) × (j < length ns) × (get_or ns i [] ≡ n) × (get_or ns j [] ≡ n)
+
+counted : (ns : List (List ℕ)) (n : List ℕ) → Two ns n → 2 ≤ sum_by (hits n) ns
+counted ns n (i, j, less, below, first, second) = grind (
+  arith,
+  length-take j ns,
+  get_or-take j ns i [] less,
+  hit n (get_or ns i []) first,
+  hit n (get_or ns j []) second,
+  get_or-le-sum_by (hits n) (take j ns) i [],
+  sum_by_more_le (hits n) ns j [] below,
+)
+
+find_two : (ns : List (List ℕ)) (n : List ℕ) → 2 ≤ sum_by (hits n) ns → Two ns n
+find_two [] n h = absurd (omega (arith, h))
+find_two (x ∷ ns) n h = elim (hit_or_none n x) [
+  | inl found ↦ (
+      let r = find ns n (omega (arith, h, sum_by-cons (hits n) x ns, found.1)) in
+      (0, suc r.0, omega arith, omega (arith, r.1), found.0, r.2))
+  | inr none ↦ (
+      let r = find_two ns n (omega (arith, h, sum_by-cons (hits n) x ns, none)) in
+      (suc r.0, suc r.1, omega (arith, r.2), omega (arith, r.3), r.4, r.5))
+]
+
+-- two of one name in one order of sources, two of it in another one
+pub two_moved : (xs ys : List Source) (n : List ℕ) → IsPermutation xs ys → Two (map name_of xs) n
+    → Two (map name_of ys) n
+two_moved xs ys n order two =
+    let here = counted (map name_of xs) n two in
+    let same = sum_by-IsPermutation (hits n) (map name_of xs) (map name_of ys)
+    (IsPermutation-map name_of xs ys order) in
+    find_two (map name_of ys) n (omega (arith, here, same))
+
+pub two_at : (sources : List Source) (i j : ℕ) → i < j → j < length sources → name_at sources i ≡ name_at sources j
+    → Two (map name_of sources) (name_at sources i)
+two_at sources i j less below same = (i, j, less, omega (arith, below, length-map sources name_of), refl, sym same)
+
+-- two neighbours have the name that two of them have
+pub neighbours : (sources files : List Source) (n : List ℕ) → AreSorted sources files → Two (map name_of sources) n
+    → (k : ℕ) × (k + 1 < length files) × (name_at files k ≡ n) × (name_at files k ≡ name_at files (k + 1))
+neighbours sources files n sorted two =
+    let (i, j, less, below, first, second) = two_moved sources files n sorted.all two in
+    let size = length-map files name_of in
+    let left = not_before sources files i (i + 1) sorted (omega arith) (omega (arith, less, below, size)) in
+    let right = not_before sources files (i + 1) j sorted (omega (arith, less)) (omega (arith, below, size)) in
+    let up = rw (second ∙ sym first) at right in
+    (i, omega (arith, less, below, size), first, same_name (name_at files i) (name_at files (i + 1)) up left)
+
+-- ---- sorted names that each sum counts alike
+
+abbrev pub IsNoLess : List ℕ → List ℕ → Type 0
+IsNoLess x y = is_less y x ≡ false
+
+-- none is less than the first of them
+none_less : (x y : List ℕ) (xs ys : List (List ℕ)) → Rises IsNoLess (y ∷ ys)
+    → sum_by (hits x) (x ∷ xs) ≡ sum_by (hits x) (y ∷ ys) → is_less x y ≡ false
+none_less x y xs ys up alike =
+    let (j, below, is) = find (y ∷ ys) x (omega (arith, alike, sum_by-cons (hits x) x xs, hit x x refl)) in
+    rw is at (sorted_far is_less less_order (y ∷ ys) (λ k d low h. up k d h) 0 j [] (omega arith) below)
+
+pub one_sorted : (xs ys : List (List ℕ)) → Rises IsNoLess xs → Rises IsNoLess ys
+    → ((f : List ℕ → ℕ) → sum_by f xs ≡ sum_by f ys) → xs ≡ ys
+one_sorted [] [] up over alike = refl
+one_sorted [] (y ∷ ys) up over alike = absurd (omega (arith, alike (λ z. 1), sum_by-cons (λ z. 1) y ys))
+one_sorted (x ∷ xs) [] up over alike = absurd (omega (arith, alike (λ z. 1), sum_by-cons (λ z. 1) x xs))
+one_sorted (x ∷ xs) (y ∷ ys) up over alike =
+    let same : x ≡ y = same_name x y (none_less x y xs ys over (alike (hits x)))
+    (none_less y x ys xs up (sym (alike (hits y)))) in
+    let rest : xs ≡ ys = one_sorted xs ys (rest_rises IsNoLess x xs up) (rest_rises IsNoLess y ys over)
+    (λ f. omega (arith, alike f, ap f same, sum_by-cons f x xs, sum_by-cons f y ys)) in
+    cc (same, rest)

@@ -18,14 +18,14 @@ use Rattle.proto_options.specs.Statements.{oneof_field, message_oneof, message_e
 use Rattle.proto_file.proofs.PlacesWithin.{Within, upto, EachIn, Gives, bracketed_of, each_marked, each_part, listed, separated_of, statement_field, each_weaker, both, each_given, each_map, each_place, each_places, EnumWithin, places_out, FileParts, lowered_parts, FieldWithin, DescWithin, MethodWithin, ServiceWithin, by_items, by_nested, each_held, split}
 use Rattle.proto_checks.specs.Elements.{OneofBreaks, ValueBreaks, EnumBreaks, BodyBreaks, RpcBreaks, ServiceBreaks, MessageBreaks, bodies, bodies_of}
 use Rattle.proto_checks.specs.Gathered.{literal, signed_number, field_number, field_numbers, value_numbers, marked_range, bounds_of, reserved_name}
-use Rattle.proto_checks.specs.Numbers.{RangesBreak, FieldNumbersBreak, EnumNumbersBreak}
+use Rattle.proto_checks.specs.Numbers.{ReservedRangesBreak, FieldNumbersBreak, EnumNumbersBreak}
 use Rattle.proto_checks.specs.Options.{name_place, SettingBreaks, SettingsBreak, OptionedField, optioned_in_oneof, optioned_fields, FieldOptionsBreak, IsWronglyPacked, IsWronglyTyped}
-use Rattle.proto_checks.specs.Marks.{IsBackwards, Outside, TextTwice}
+use Rattle.proto_checks.specs.Marks.{IsBackwards, TextTwice}
 use Rattle.proto_checks.specs.declared.marks.MarkedNumber.{MarkedNumber}
 use Rattle.proto_checks.specs.declared.marks.MarkedRange.{MarkedRange}
 use Rattle.proto_base.specs.declared.spot.Spot.{Spot}
 use Rattle.proto_file.proofs.Spots.{Placed, SpotWithin, at_spot, standing, each_within, later_within, NumbersWithin, number_twice, text_twice, number_at, name_used}
-use Rattle.proto_base.specs.Sets.{Each, ◌∪◌}
+use Rattle.proto_base.specs.Sets.{Each}
 use Rattle.proto_base.specs.declared.kind.Kind.{Kind}
 use Rattle.proto_tree.specs.declared.literal.StringValue.{StringValue}
 use Rattle.proto_base.specs.declared.limits.Limits.{Limits}
@@ -101,25 +101,22 @@ module _ (n : ℕ) where
   -- ---- what is reserved
 
   -- reserved ranges, beside the numbers in use
-  ranges_break : {N : Type 0} (f : N → Tree) (mark : N → MarkedNumber) (greatest low high : ℕ) (k : Kind)
+  ranges_break : {N : Type 0} (f : N → Tree) (mark : N → MarkedNumber) (low high : ℕ) (k : Kind)
       (is : List (ReservedItems N)) (used : List MarkedNumber) (x : Spot)
       → ((y : N) → Within (upto n) (f y) → Placed n (mark y).place) → EachIn (upto n) (reserved_items_tree f) is
-      → NumbersWithin n used
-      → (Outside low high k (map mark (flat_map bounds_of (flat_map ranges_in is)))
-      ∪ RangesBreak (map (marked_range mark greatest) (flat_map ranges_in is)) used) x → SpotWithin n x
-  ranges_break f mark greatest low high k is used x at all at_used b = by b
+      → NumbersWithin n used → ReservedRangesBreak mark low high k (flat_map ranges_in is) used x → SpotWithin n x
+  ranges_break f mark low high k is used x at all at_used b = by b
     where
       ranges : EachIn (upto n) (range_tree f) (flat_map ranges_in is)
       ranges = each_part (upto n) (reserved_items_tree f) ranges_in (range_tree f) _
           (λ i w. grind (arith, separated_of (upto n) (range_tree f))) all
 
       marked : AllByRecursion (λ (r : MarkedRange). Placed n r.place)
-          (map (marked_range mark greatest) (flat_map ranges_in is))
+          (map (marked_range mark high) (flat_map ranges_in is))
       marked = each_marked (λ r. Within (upto n) (range_tree f r)) (λ (r : MarkedRange). Placed n r.place)
-          (marked_range mark greatest) _ (λ r w. at r.start w.0) ranges
+          (marked_range mark high) _ (λ r w. at r.start w.0) ranges
 
-      by : (Outside low high k (map mark (flat_map bounds_of (flat_map ranges_in is)))
-          ∪ RangesBreak (map (marked_range mark greatest) (flat_map ranges_in is)) used) x → SpotWithin n x
+      by : ReservedRangesBreak mark low high k (flat_map ranges_in is) used x → SpotWithin n x
       by (inl b) = number_at _ _ n _ x
           (each_marked (λ y. Within (upto n) (f y)) (λ (m : MarkedNumber). Placed n m.place) mark _ at
           (each_part (upto n) (range_tree f) bounds_of f _ (λ r w. grind arith) ranges)) b
@@ -156,7 +153,7 @@ module _ (n : ℕ) where
       by : FieldNumbersBreak is x → SpotWithin n x
       by (inl (inl (inl b))) = number_at _ _ n _ x numbers b
       by (inl (inl (inr b))) = number_twice n _ _ x numbers b
-      by (inl (inr b)) = ranges_break number_tree literal _ _ _ _ _ _ x (λ y w. w) reserved numbers b
+      by (inl (inr b)) = ranges_break number_tree literal _ _ _ _ _ x (λ y w. w) reserved numbers b
       by (inr b) = reserved_break number_tree _ x reserved b
 
   enum_numbers_break : (is : List EnumItem) (x : Spot) → EachIn (upto n) enum_item_tree is → EnumNumbersBreak is x
@@ -179,7 +176,7 @@ module _ (n : ℕ) where
       by (inl (inl (inl (inr b)))) = number_at _ _ n _ x numbers b
       by (inl (inl (inr b))) = number_twice n _ _ x numbers b.1
       by (inl (inr b)) =
-          ranges_break signed_tree signed_number _ _ _ _ _ _ x (λ y w. grind arith) reserved numbers b
+          ranges_break signed_tree signed_number _ _ _ _ _ x (λ y w. grind arith) reserved numbers b
       by (inr b) = reserved_break signed_tree _ x reserved b
 
   -- ---- elements

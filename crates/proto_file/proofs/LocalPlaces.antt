@@ -1,7 +1,6 @@
 -- Where tokens begin and where a source's own faults stand: within its text.
-use Rattle.std.proofs.Common.{sym, subst, ℕ, zero, suc, ◌+◌, ◌≤◌, List, [], ◌∷◌, length, take, drop, inl, inr, arith, length-drop}
+use Rattle.std.proofs.Common.{sym, subst, ℕ, zero, suc, ◌+◌, ◌≤◌, List, [], ◌∷◌, length, take, drop, inl, inr, arith, length-drop, length-take}
 use Rattle.std.specs.Cmp.Lexicographic.{same_text}
-use Rattle.std.proofs.lemmas.List.{length-take}
 use Rattle.std.proofs.lemmas.Str.{utf8_valid_len_le}
 use Rattle.proto_base.specs.Limits.{limit_of}
 use Rattle.proto_tokens.specs.Spelling.{Piece, IsCutIntoPieces, IsFault, IsTokenList, mark_len, tokens_from}

@@ -1,8 +1,7 @@
 -- The places of a descriptor are those of tokens: they lie within a text in which the tokens of the tree begin.
-use Rattle.std.proofs.Common.{◌≡◌, sym, subst, arith, ℕ, ◌≤◌, Bool, false, cond, List, [], ◌∷◌, ◌++◌, map, ◌+◌, flat_map, Option, None, Some, slice_get}
+use Rattle.std.proofs.Common.{◌≡◌, sym, subst, arith, ℕ, ◌≤◌, Bool, false, cond, List, [], ◌∷◌, ◌++◌, map, ◌+◌, flat_map, Option, None, Some, slice_get, option_to_list, option_map}
 use Rattle.std.specs.List.{AllByRecursion}
 use Rattle.std.proofs.lemmas.List.Folds.{flat_map-map}
-use Rattle.std.specs.Option.{option_to_list, option_map}
 use Rattle.proto_tokens.specs.Token.{Spelled}
 use Rattle.proto_base.specs.declared.place.Place.{Place}
 use Rattle.proto_syntax.specs.Grammar.{Tree, Pair, Left, Right, flatten, Empty, Leaf}

@@ -1,6 +1,7 @@
 -- The oneofs that `optional` fields make.
 use Rattle.std.proofs.Common.{◌≡◌, ◌∙◌, ap, sym, refl, ◌+◌, ◌++◌, ℕ, zero, suc, Bool, true, false, List, [], ◌∷◌, length, take, arith, append_assoc}
 use Rattle.std.proofs.Math.ListN.{length-append}
+use Rattle.std.proofs.Math.Seq.{take-append_seam}
 use Rattle.std.proofs.lemmas.List.{append-nil}
 use Rattle.std.proofs.lemmas.List.Sums.{sum_by-cons}
 use Rattle.std.specs.Prelude.{Some, slice_get, count_by, cond}
@@ -48,17 +49,10 @@ with_made-start names so_far (f ∷ fs) =
     let rest = with_made-start names (with_one names so_far f f.proto3_optional) fs in
     (one.0 ++ rest.0, rest.1 ∙ ap (λ xs. xs ++ rest.0) one.1 ∙ append_assoc so_far one.0 rest.0)
 
--- the element behind a list, and the list before it
-get_seam : {A : Type 0} (xs : List A) (y : A) (ys : List A) (n : ℕ) → n ≡ length xs
-    → slice_get (xs ++ y ∷ ys) n ≡ Some y
-get_seam [] y ys n at = rw at refl
-get_seam (x ∷ xs) y ys zero at = absurd (omega arith)
-get_seam (x ∷ xs) y ys (suc n) at = get_seam xs y ys n (omega arith)
-
-take_seam : {A : Type 0} (xs ys : List A) (n : ℕ) → n ≡ length xs → take n (xs ++ ys) ≡ xs
-take_seam [] ys n at = rw at refl
-take_seam (x ∷ xs) ys zero at = absurd (omega arith)
-take_seam (x ∷ xs) ys (suc n) at = ap (λ zs. x ∷ zs) (take_seam xs ys n (omega arith))
+-- the element behind a list
+get_seam : {A : Type 0} (xs : List A) (y : A) (ys : List A) → slice_get (xs ++ y ∷ ys) (length xs) ≡ Some y
+get_seam [] y ys = refl
+get_seam (x ∷ xs) y ys = get_seam xs y ys
 
 pub get_start : {A : Type 0} (xs ys : List A) (n : ℕ) (x : A) → slice_get xs n ≡ Some x
     → slice_get (xs ++ ys) n ≡ Some x
@@ -97,5 +91,4 @@ slice_get-with_made names so_far before f after index optional is =
     let made = made_named (names ++ names_of_oneofs done) f in
     let seam = with_made-seam names so_far before f after optional in
     let at : index ≡ length done = omega (arith, is, length-with_made names so_far before) in
-    rw seam.1 (get_seam done made seam.0 index at
-    ∙ ap (λ os. Some (made_named (names ++ names_of_oneofs os) f)) (sym (take_seam done (made ∷ seam.0) index at)))
+    rw (seam.1, at, take-append_seam) (get_seam done made seam.0)

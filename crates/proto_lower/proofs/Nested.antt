@@ -1,9 +1,9 @@
 -- The nested messages that a message gives as a statement.
 use Rattle.std.proofs.Common.{arith, ◌≡◌, ◌∙◌, ap, sym, refl, List, [], ◌∷◌, ◌++◌, ℕ, ◌+◌, ◌<◌, length, take, get_or, append_assoc}
-use Rattle.std.proofs.lemmas.List.{take_more, append-nil}
-use Rattle.std.proofs.lemmas.List.Concat.{flat_map-append}
+use Rattle.std.proofs.lemmas.List.{append-nil}
 use Rattle.std.specs.Prelude.{flat_map}
 use mathlib.Core.Former.{this, arity}
+use Rattle.proto_base.proofs.Among.{taken}
 use Rattle.proto_base.specs.formers.boxed.Boxed.{the_former}
 use Rattle.proto_tree.specs.declared.message.Message.{Message}
 use Rattle.proto_tree.specs.declared.message.MessageItem.{Message', Row_of-MessageItem, end_of-MessageItem, more_of-MessageItem, Row_of-Message, end_of-Message, more_of-Message, items-the_row-MessageItem, items-the_row-Message, items_shown-the_row-MessageItem-0, items_hidden-the_row-Message-1}
@@ -30,19 +30,11 @@ nested_message full m =
     nested_boxed full _ (row_of (of.Message m)).1
     ∙ ap (flat_map (λ m. lowered_message full m ∷ [])) (items_hidden-the_row-Message-1 m)
 
--- what a statement gives is behind what those before it give
-next_given : {X Y : Type 0} (f : X → List Y) (xs : List X) (i : ℕ) (x : X) (new : List Y) → i < length xs
-    → x ≡ get_or xs i x → new ≡ f x
-    → flat_map f (take i xs) ++ new ≡ flat_map f (take (i + 1) xs)
-next_given f xs i x new within at gives =
-    rw gives (ap (λ z. flat_map f (take i xs) ++ z) (sym (append-nil (f x)) ∙ ap (λ z. flat_map f (z ∷ [])) at)
-    ∙ sym (flat_map-append f (take i xs) (get_or xs i x ∷ [])) ∙ ap (flat_map f) (sym (take_more xs i x within)))
-
 -- one more statement, and what it gives
 pub one_more : {X Y : Type 0} (f : X → List Y) (xs : List X) (i : ℕ) (x : X) (before done new : List Y) → i < length xs
     → x ≡ get_or xs i x
     → done ≡ before ++ flat_map f (take i xs) → new ≡ f x → done ++ new ≡ before ++ flat_map f (take (i + 1) xs)
-one_more f xs i x before done new within at so_far gives = grind (arith, append_assoc, next_given)
+one_more f xs i x before done new within at so_far gives = grind (arith, append_assoc, taken)
 
 pub none_more : {X Y : Type 0} (f : X → List Y) (xs : List X) (i : ℕ) (x : X) (before done : List Y) → i < length xs
     → x ≡ get_or xs i x

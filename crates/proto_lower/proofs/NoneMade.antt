@@ -10,7 +10,4 @@ pub none_made : (names : List (List ℕ)) (so_far : List OneofDesc) (fs : List F
     → list_any (λ f. f.proto3_optional) fs ≡ false
     → with_made names so_far fs ≡ so_far
 none_made names so_far [] none = refl
-none_made names so_far (f ∷ fs) none =
-    let here : f.proto3_optional ≡ false = grind (arith, nat_tests) in
-    let rest : list_any (λ g. g.proto3_optional) fs ≡ false = grind (arith, nat_tests) in
-    rw here (none_made names so_far fs rest)
+none_made names so_far (f ∷ fs) none = grind (arith, nat_tests, none_made names so_far fs)

@@ -1,5 +1,5 @@
 -- Names without underscores are their own JSON names.
-use Rattle.std.proofs.Common.{length, ◌⊎◌, ◌≢◌, ◌≡◌, ◌∙◌, ℕ, List, [], ◌∷◌, ◌++◌, append_assoc, ap, sym, refl, true, false, arith, if◌then◌else◌}
+use Rattle.std.proofs.Common.{length, ◌⊎◌, ◌≢◌, ◌≡◌, ◌∙◌, ℕ, List, [], ◌∷◌, ◌++◌, append_assoc, sym, refl, true, false, arith, if◌then◌else◌}
 use Rattle.std.proofs.lemmas.List.{append-nil}
 use Rattle.std.proofs.lemmas.List.Folds.{list_any-append}
 use Rattle.std.specs.Prelude.{◌==◌, encode_utf8, encode_utf8_all}
@@ -13,10 +13,7 @@ use Rattle.proto_lower.specs.Names.{letters_behind, raised, json_name_of}
 letters_unchanged : (before : ℕ) (cs : List ℕ) → (before == 95) ≡ false → list_any (λ c. c == 95) cs ≡ false
     → letters_behind before cs ≡ cs
 letters_unchanged before [] apart none = refl
-letters_unchanged before (c ∷ cs) apart none =
-    let here : (c == 95) ≡ false = grind (arith, nat_tests) in
-    let rest : list_any (λ c. c == 95) cs ≡ false = grind (arith, nat_tests) in
-    rw (here, apart) (ap (λ xs. c ∷ xs) (letters_unchanged c cs here rest))
+letters_unchanged before (c ∷ cs) apart none = grind (arith, nat_tests, letters_unchanged c cs)
 
 -- an underscore among the characters is one of the bytes
 none_of_letters : (cs : List ℕ) → list_any (λ c. c == 95) (encode_utf8_all cs) ≡ false
@@ -63,6 +60,5 @@ pub so_far_end : (made : List ℕ) (before : ℕ) (rest all : List ℕ) → IsSo
     → made ≡ all
 so_far_end made before [] all so_far done =
     let none : so_far.letters ≡ [] = encodes_same so_far.letters [] so_far.spelled in
-    sym (append-nil made) ∙ ap (λ (ls : List ℕ). made ++ encode_utf8_all (letters_behind before ls)) (sym none)
-    ∙ so_far.whole
+    sym (append-nil made) ∙ (rw none at so_far.whole)
 so_far_end made before (b ∷ rest) all so_far done = grind arith

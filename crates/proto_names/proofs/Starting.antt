@@ -1,24 +1,41 @@
--- Slots of hashes: they follow the order of occurrences, where they begin, and what stands in one.
+-- Hashes and their slots: where slots begin, and the slots of scopes as bits.
 use Rattle.std.proofs.lemmas.Grind.{common_steps}
-use Rattle.std.proofs.Common.{◌≡◌, ◌≢◌, ◌∙◌, ℕ, ◌+◌, ◌-◌, ◌*◌, ◌<◌, ◌≤◌, List, ◌++◌, length, get_or, ap, arith, inl, inr, lit<}
-use Rattle.std.specs.Prelude.{replicate}
-use Rattle.std.specs.Ordering.{is_lt}
+use Rattle.std.proofs.Common.{◌≡◌, ℕ, ◌+◌, ◌-◌, ◌*◌, ◌<◌, ◌≤◌, List, [], ◌∷◌, ◌++◌, length, take, get_or, append_assoc, arith, inl, inr, lit<, refl, IsTrue, replicate, is_lt}
 use Rattle.std.proofs.Math.ListN.{get_or-append}
 use Rattle.std.proofs.Math.Nat.{div-lt_iff_lt-mul, div-mul-le_self, mul-le-mul_right, mul-lt-mul_of_pos_right}
 use Rattle.std.proofs.Math.Seq.{get_or-append_right}
 use Rattle.std.proofs.lemmas.Bool.{cases_lt}
-use Rattle.std.proofs.lemmas.List.{get_or-replicate, length-append, length-replicate}
+use Rattle.std.proofs.lemmas.List.{get_or-replicate, length-append, length-replicate, take_more}
+use Rattle.std.proofs.lemmas.List.Elements.{Contains-push_cases}
 use Rattle.std.proofs.lemmas.List.MinMax.{ranks_by}
 use Rattle.std.proofs.lemmas.List.Sorted.{sorted_far}
+use Rattle.std.proofs.lemmas.List.Folds.{fold_along}
+use Rattle.std.proofs.lemmas.List.Sums.{fold-append}
 use Rattle.std.proofs.lemmas.Nat.{le-div}
-use Rattle.proto_names.specs.Hashes.{hash_of}
+use Rattle.bit_matrix.specs.Bits.{Bits}
+use Rattle.bit_matrix.specs.Changes.{HasInserted, columns_of}
+use Rattle.proto_names.specs.Hashes.{hash_of, hash_step}
 use Rattle.proto_names.specs.Index.{name_of}
 use Rattle.proto_names.specs.Occurrences.{Occurrence}
 use Rattle.proto_names.specs.Order.{AreInHashOrder, name_cmp}
+use Rattle.proto_names.specs.Resolution.{is_scope}
 use Rattle.proto_names.specs.Runs.{at, blank}
+use Rattle.proto_names.specs.ScopeHashes.{TellsScopes, tells}
 use Rattle.proto_names.specs.Starts.{AreStarts, BeginsSlot, slot_at, slot_of}
-use Rattle.proto_names.proofs.NameOrder.{name_total}
-use Rattle.proto_names.proofs.Ordered.{first_not, not_below}
+use Rattle.proto_names.proofs.Ordered.{first_not, name_total, not_below}
+
+-- ---- hashes
+
+pub hash_below : (name : List ℕ) → hash_of name < 4294967296
+hash_below name =
+    fold_along hash_step hash_step (λ hash other. hash < 4294967296) (λ b c x h. omega arith) 0 0 name (lit< tt)
+
+-- the hash of a text is that of all but its last byte, and the byte
+pub hash_end : (prefix bytes : List ℕ) (k d : ℕ) → k < length bytes
+    → hash_of (prefix ++ take (k + 1) bytes) ≡ hash_step (hash_of (prefix ++ take k bytes)) (get_or bytes k d)
+hash_end prefix bytes k d within =
+    rw (take_more bytes k d within, ← append_assoc prefix (take k bytes) (get_or bytes k d ∷ []))
+    (fold-append hash_step 0 (prefix ++ take k bytes) (get_or bytes k d ∷ []))
 
 -- ---- slots follow the order
 
@@ -30,16 +47,11 @@ slot_below count hash some small =
     let less : hash * count < 4294967296 * count = mul-lt-mul_of_pos_right small some in
     (div-lt_iff_lt-mul {k = 4294967296} (lit< tt)).1 (omega (arith, less))
 
-hashes_rise : (os : List Occurrence) → AreInHashOrder os → (i j : ℕ) → i ≤ j → j < length os
-    → hash_of (at os i).name ≤ hash_of (at os j).name
-hashes_rise os up i j h below =
-    let far = sorted_far (λ x y. is_lt (name_cmp (name_of x) (name_of y)))
-    (ranks_by name_total name_of) os up i j blank h below in
-    not_below (hash_of (at os j).name) (hash_of (at os i).name) (first_not _ _ far)
-
 pub slots_rise : (os : List Occurrence) (count : ℕ) → AreInHashOrder os → (i j : ℕ) → i ≤ j → j < length os
     → slot_at os count i ≤ slot_at os count j
-slots_rise os count up i j h below = slots_up count _ _ (hashes_rise os up i j h below)
+slots_rise os count up i j h below = slots_up count _ _ (not_below (hash_of (at os j).name) (hash_of (at os i).name)
+    (first_not _ _ (sorted_far (λ x y. is_lt (name_cmp (name_of x) (name_of y))) (ranks_by name_total name_of) os up i j
+    blank h below)))
 
 -- ---- finding where they begin
 
@@ -49,43 +61,33 @@ pub record StartsTo (os : List Occurrence) (count n : ℕ) (starts : List ℕ) :
   pub each : (s : ℕ) → s < length starts → BeginsSlot os count s (get_or starts s 0)
   pub filled : (k : ℕ) → k < n → slot_at os count k < length starts
 
-module _ (os : List Occurrence) (count n : ℕ) (old : List ℕ) (size : ℕ) where
-  abbrev longer : List ℕ
-  longer = old ++ replicate (size - length old) n
+module _ (os : List Occurrence) (count n size : ℕ) (old new : List ℕ) (so_far : StartsTo os count n old)
+    (made : new ≡ old ++ replicate (size - length old) n) (inside : n ≤ length os)
+    (behind : (k : ℕ) → n ≤ k → k < length os → size ≤ slot_at os count k + 1) where
+  longer_length : length new ≡ length old + (size - length old)
+  longer_length = rw made (grind (arith, common_steps, length-append, length-replicate))
 
-  longer_length : length longer ≡ length old + (size - length old)
-  longer_length = grind (arith, common_steps, length-append, length-replicate)
+  longer_new : (s : ℕ) → length old ≤ s → s < length new → get_or new s 0 ≡ n
+  longer_new s over h = grind (arith, common_steps, longer_length, get_or-append_right, get_or-replicate)
 
-  longer_each : ((s : ℕ) → s < length old → BeginsSlot os count s (get_or old s 0))
-      → ((s : ℕ) → length old ≤ s → s < size → BeginsSlot os count s n)
-      → (s : ℕ) → s < length longer → BeginsSlot os count s (get_or longer s 0)
-  longer_each before new s h = elim (cases_lt s (length old)) [
-    | inl less ↦ rw (get_or-append old (replicate (size - length old) n) 0 s less) (before s less)
-    | inr over ↦ (
-        let inside : s - length old < size - length old = omega (arith, longer_length) in
-        rw (
-          get_or-append_right old (replicate (size - length old) n) s 0 over,
-          get_or-replicate (size - length old) (s - length old) n 0 inside,
-        ) (new s over (omega arith)))
-  ]
+  longer_old : (s : ℕ) → s < length old → get_or new s 0 ≡ get_or old s 0
+  longer_old s less = grind (arith, common_steps, get_or-append)
+
+  longer_each : (s : ℕ) → s < length new → BeginsSlot os count s (get_or new s 0)
+  longer_each s h =
+      grind (arith, cases_lt s (length old), longer_new s, longer_old s, so_far.each s, longer_length)
 
 pub starts_more : (os : List Occurrence) (count n slot : ℕ) (old new : List ℕ) → AreInHashOrder os → n < length os
     → slot ≡ slot_at os count n → slot < count → new ≡ old ++ replicate (slot + 1 - length old) n
     → StartsTo os count n old → StartsTo os count (n + 1) new
 starts_more os count n slot old new up below is few made so_far =
-    let long : length new ≡ length old + (slot + 1 - length old) =
-    ap length made ∙ longer_length os count n old (slot + 1) in
+    let behind : (k : ℕ) → n ≤ k → k < length os → slot + 1 ≤ slot_at os count k + 1 =
+    λ k h g. omega (arith, slots_rise os count up n k h g) in
+    let long = longer_length os count n (slot + 1) old new so_far made (omega arith) behind in
     record {
-      within = omega arith;
-      each = rw made (longer_each os count n old (slot + 1) so_far.each (λ s over under. record {
-        within = omega arith;
-        before = λ k h. omega (arith, so_far.filled k h);
-        behind = λ k h g. omega (arith, slots_rise os count up n k h g);
-      }));
-      filled = λ k h. (elim (cases_lt k n) [
-        | inl less ↦ omega (arith, so_far.filled k less)
-        | inr over ↦ (let same : k ≡ n = omega arith in rw same (omega arith))
-      ]);
+      within = omega (arith, so_far.within);
+      each = longer_each os count n (slot + 1) old new so_far made (omega arith) behind;
+      filled = λ k h. grind (arith, cases_lt k n, so_far.filled k);
     }
 
 pub starts_whole : (os : List Occurrence) (count n all : ℕ) (old new : List ℕ) → n ≡ length os
@@ -93,19 +95,31 @@ pub starts_whole : (os : List Occurrence) (count n all : ℕ) (old new : List �
     → count < 4294967296 → new ≡ old ++ replicate (count + 1 - length old) all → StartsTo os count n old
     → AreStarts os new
 starts_whole os count n all old new whole is some few made so_far =
-    let long : length new ≡ length old + (count + 1 - length old) =
-    ap length made ∙ longer_length os count all old (count + 1) in
-    let found : (s : ℕ) → s < length new → BeginsSlot os count s (get_or new s 0) =
-    rw made (longer_each os count all old (count + 1) so_far.each (λ s over under. record {
-      within = omega arith;
-      before = λ k h. omega (arith, so_far.filled k (omega arith));
-      behind = λ k h g. absurd (omega arith);
-    })) in
+    let known : StartsTo os count all old = rw (is, ← whole) so_far in
+    let behind : (k : ℕ) → all ≤ k → k < length os → count + 1 ≤ slot_at os count k + 1 =
+    λ k h g. absurd (omega arith) in
+    let long = longer_length os count all (count + 1) old new known made (omega arith) behind in
     let size : length new - 1 ≡ count = omega (arith, so_far.within) in
-    record { some = omega (arith, so_far.within); few = omega (arith, so_far.within); each = rw size found }
+    record {
+      some = omega (arith, so_far.within);
+      few = omega (arith, so_far.within);
+      each = rw size (longer_each os count all (count + 1) old new known made (omega arith) behind);
+    }
 
--- ---- looking through a slot
+-- ---- the slots of scopes, as bits that are set one after the other
 
--- none of the first n has this name
-abbrev pub NoneBefore : List Occurrence → List ℕ → ℕ → Type 0
-NoneBefore os name n = (k : ℕ) → k < n → (at os k).name ≢ name
+pub tells_next : (os : List Occurrence) (k slots : ℕ) (old new : Bits) → k < length os
+    → ((name : List ℕ) → IsTrue (tells old slots (hash_of name)) → IsTrue (tells new slots (hash_of name)))
+    → (IsTrue (is_scope (at os k).kind) → IsTrue (tells new slots (hash_of (at os k).name)))
+    → TellsScopes (take k os) old slots → TellsScopes (take (k + 1) os) new slots
+tells_next os k slots old new inside kept here told o within is =
+    grind (arith, take_more os k blank inside, Contains-push_cases (take k os) (at os k) o, told o, kept o.name)
+
+-- where the slot of what stands there is set
+pub tells_set : (os : List Occurrence) (k slots : ℕ) (old new : Bits) → k < length os → 0 < slots
+    → slots ≤ columns_of old → HasInserted old 0 (slot_of slots (hash_of (at os k).name)) new
+    → TellsScopes (take k os) old slots → TellsScopes (take (k + 1) os) new slots
+tells_set os k slots old new inside some room put =
+    let bit = λ (name : List ℕ). put.bits (slot_of slots (hash_of name))
+    (omega (arith, slot_below slots (hash_of name) some (hash_below name), room)) in
+    tells_next os k slots old new inside (λ name is. (bit name).1 (inl is)) (λ is. (bit (at os k).name).1 (inr refl))

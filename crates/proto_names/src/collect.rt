@@ -38,77 +38,85 @@ fn put_members<D: Declares>(
     Ok(())
 }
 
-/// Puts an enum and its values, which stand beside the enum, in its scope.
-fn put_enum(
-    entries: &mut Entries,
-    file: FileId,
-    scope: Scope,
-    declared: &EnumDesc,
-) -> Result<(), AllocError>
-    ensures { OnOk result (entries.new ≡ entries.old
-        ++ map (declared_occurrence file) (declared_by_enum scope.entry.text.now declared.now)) }
-{
-    let name = declared.name.as_str();
-    let place = declared.place;
-    entries.push(scope, name, Location { file, place }, Some(NameKind::Enum))?;
-    put_members(entries, file, scope, declared.values.as_slice())
+/// What declares names, its own among them.
+trait Collect {
+    ghost use Rattle.std.specs.Prelude.{◌≡◌, ◌++◌, ℕ, List, OnOk, map};
+    ghost use Rattle.proto_desc.specs.DeclaredNames.{Declared};
+    ghost use Rattle.proto_names.specs.Occurrences.{declared_occurrence};
+
+    /// These names, in a scope.
+    ghost declares: { List ℕ → Self → List Declared };
+
+    /// Puts these names behind the others.
+    fn put(
+        &self,
+        alloc: Global,
+        entries: &mut Entries,
+        file: FileId,
+        scope: Scope,
+    ) -> Result<(), AllocError>
+        ensures { OnOk result (entries.new ≡ entries.old
+            ++ map (declared_occurrence file) (declares scope.entry.text.now self.now)) };
 }
 
-fn put_enums(
-    entries: &mut Entries,
-    file: FileId,
-    scope: Scope,
-    enums: &[EnumDesc],
-) -> Result<(), AllocError>
-    ensures { OnOk result (entries.new ≡ entries.old
-        ++ map (declared_occurrence file)
-        (flat_map (declared_by_enum scope.entry.text.now) enums.now)) }
-{
-    for declared in enums {
-        put_enum(entries, file, scope, declared)?;
-    }
-    Ok(())
-}
-
-/// Puts a service and its methods, which stand in the service.
-fn put_service(
+/// Puts what elements declare, one after the other.
+fn put_each<C: Collect>(
     alloc: Global,
     entries: &mut Entries,
     file: FileId,
     scope: Scope,
-    service: &ServiceDesc,
+    elements: &[C],
 ) -> Result<(), AllocError>
     ensures { OnOk result (entries.new ≡ entries.old
-        ++ map (declared_occurrence file) (declared_by_service scope.entry.text.now service.now)) }
+        ++ map (declared_occurrence file) (flat_map (C.declares scope.entry.text.now) elements.now)) }
 {
-    let name = service.name.as_str();
-    let place = service.place;
-    entries.push(
-        scope,
-        name,
-        Location { file, place },
-        Some(NameKind::Service),
-    )?;
-    let full = name_in(alloc, scope.text, name)?;
-    let inside = Scope::new(full.as_str());
-    put_members(entries, file, inside, service.methods.as_slice())
-}
-
-fn put_services(
-    alloc: Global,
-    entries: &mut Entries,
-    file: FileId,
-    scope: Scope,
-    services: &[ServiceDesc],
-) -> Result<(), AllocError>
-    ensures { OnOk result (entries.new ≡ entries.old
-        ++ map (declared_occurrence file)
-        (flat_map (declared_by_service scope.entry.text.now) services.now)) }
-{
-    for service in services {
-        put_service(alloc, entries, file, scope, service)?;
+    for element in elements {
+        element.put(alloc, entries, file, scope)?;
     }
     Ok(())
+}
+
+/// An enum and its values, which stand beside the enum, in its scope.
+impl Collect for EnumDesc<'_> {
+    ghost declares = { declared_by_enum };
+
+    fn put(
+        &self,
+        _alloc: Global,
+        entries: &mut Entries,
+        file: FileId,
+        scope: Scope,
+    ) -> Result<(), AllocError> {
+        let place = self.place;
+        let location = Location { file, place };
+        entries.push(scope, self.name.as_str(), location, Some(NameKind::Enum))?;
+        put_members(entries, file, scope, self.values.as_slice())
+    }
+}
+
+/// A service and its methods, which stand in the service.
+impl Collect for ServiceDesc<'_> {
+    ghost declares = { declared_by_service };
+
+    fn put(
+        &self,
+        alloc: Global,
+        entries: &mut Entries,
+        file: FileId,
+        scope: Scope,
+    ) -> Result<(), AllocError> {
+        let name = self.name.as_str();
+        let place = self.place;
+        entries.push(
+            scope,
+            name,
+            Location { file, place },
+            Some(NameKind::Service),
+        )?;
+        let full = name_in(alloc, scope.text, name)?;
+        let inside = Scope::new(full.as_str());
+        put_members(entries, file, inside, self.methods.as_slice())
+    }
 }
 
 /// Puts a message and all that stands in it.
@@ -134,28 +142,25 @@ fn put_message(
     let inside = Scope::new(full.as_str());
     put_members(entries, file, inside, message.fields.as_slice())?;
     put_members(entries, file, inside, message.oneofs.as_slice())?;
-    put_enums(entries, file, inside, message.enums.as_slice())?;
+    put_each(alloc, entries, file, inside, message.enums.as_slice())?;
     for nested in message.nested.as_slice() {
         put_message(alloc, entries, file, inside, nested)?;
     }
     Ok(())
 }
 
-fn put_messages(
-    alloc: Global,
-    entries: &mut Entries,
-    file: FileId,
-    scope: Scope,
-    messages: &[MessageDesc],
-) -> Result<(), AllocError>
-    ensures { OnOk result (entries.new ≡ entries.old
-        ++ map (declared_occurrence file)
-        (flat_map (λ m. declared_by_message m scope.entry.text.now) messages.now)) }
-{
-    for message in messages {
-        put_message(alloc, entries, file, scope, message)?;
+impl Collect for MessageDesc<'_> {
+    ghost declares = { λ scope message. declared_by_message message scope };
+
+    fn put(
+        &self,
+        alloc: Global,
+        entries: &mut Entries,
+        file: FileId,
+        scope: Scope,
+    ) -> Result<(), AllocError> {
+        put_message(alloc, entries, file, scope, self)
     }
-    Ok(())
 }
 
 /// Puts a package's name and its prefixes, from the longest on.
@@ -202,9 +207,9 @@ fn put_declared(
     ensures { OnOk result (entries.new ≡ entries.old
         ++ map (declared_occurrence file) (declared_in scope.entry.text.now desc.now)) }
 {
-    put_messages(alloc, entries, file, scope, desc.messages.as_slice())?;
-    put_enums(entries, file, scope, desc.enums.as_slice())?;
-    put_services(alloc, entries, file, scope, desc.services.as_slice())
+    put_each(alloc, entries, file, scope, desc.messages.as_slice())?;
+    put_each(alloc, entries, file, scope, desc.enums.as_slice())?;
+    put_each(alloc, entries, file, scope, desc.services.as_slice())
 }
 
 fn put_file(

@@ -1,6 +1,5 @@
 -- The faults of one reference, by what its name means.
-use Rattle.std.proofs.Common.{arith, ◌≡◌, ℕ, List, inl, inr}
-use Rattle.std.specs.Prelude.{Option, Some, None}
+use Rattle.std.proofs.Common.{arith, ◌≡◌, ℕ, List, inl, inr, Option, Some, None}
 use Rattle.proto_base.specs.declared.kind.Kind.TheVariants as kind
 use Rattle.proto_desc.specs.declared.name_kind.NameKind.{NameKind}
 use Rattle.proto_desc.specs.declared.name_kind.NameKind.TheVariants as name_kind

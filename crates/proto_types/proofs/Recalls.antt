@@ -1,6 +1,5 @@
 -- What is recalled of a scope, and what it says of a field's type.
-use Rattle.std.proofs.Common.{arith, ◌≡◌, inl, inr, ℕ, List, [], ◌∷◌, Option, Some, None, Bool, true, refl}
-use Rattle.std.specs.Prelude.{All, bytes_eq, find}
+use Rattle.std.proofs.Common.{arith, ◌≡◌, inl, inr, ℕ, List, [], ◌∷◌, Option, Some, None, Bool, true, refl, All, bytes_eq, find}
 use Rattle.std.proofs.lemmas.List.Elements.{All-cons, All-head, All-nil, All-push, All-tail}
 use Rattle.std.proofs.lemmas.Slice.Eq.{bytes_eq-Decides}
 use Rattle.std.proofs.lemmas.Option.{none-some}

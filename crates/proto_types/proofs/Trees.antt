@@ -1,9 +1,7 @@
 -- Trees of messages.
-use Rattle.std.proofs.Common.{arith, ◌≡◌, ◌∙◌, ap, ℕ, List, [], ◌∷◌, ◌++◌, Bool, true, refl}
-use Rattle.std.proofs.lemmas.Bool.{and_from}
+use Rattle.std.proofs.Common.{arith, ◌≡◌, ◌∙◌, ap, ℕ, List, [], ◌∷◌, ◌++◌, Bool, true, refl, flat_map}
 use Rattle.std.proofs.lemmas.List.Folds.{flat_map-map}
 use Rattle.std.specs.List.{AllZip, list_all}
-use Rattle.std.specs.Prelude.{flat_map}
 use Rattle.proto_desc.specs.Resolved.{field_resolved, message_resolved, method_resolved, service_resolved, file_resolved}
 use Rattle.proto_desc.specs.declared.field.FieldDesc.{FieldDesc}
 use Rattle.proto_desc.specs.declared.file.FileDesc.{FileDesc}
@@ -38,9 +36,8 @@ pub messages_typed : (os : List Occurrence) (Seen : ℕ → Type 0) (scope : Lis
     → AllZip (IsTypedMessage os Seen scope) ms gs
     → AreTypedMessages os Seen scope ms gs
 messages_typed os Seen scope [] [] h = none scope
-messages_typed os Seen scope [] (g ∷ gs) h = absurd h
-messages_typed os Seen scope (m ∷ ms) [] h = absurd h
 messages_typed os Seen scope (m ∷ ms) (g ∷ gs) h = more scope m g ms gs h.0 (messages_typed os Seen scope ms gs h.1)
+messages_typed os Seen scope ms gs h = absurd h
 
 -- a message of which the fields and the messages within it are made
 pub remade_typed : (os : List Occurrence) (Seen : ℕ → Type 0) (scope : List ℕ) (m : MessageDesc)
@@ -60,10 +57,8 @@ remade_typed os Seen scope m x fields nested e own inside =
 -- all of a list, where each is what another is typed as
 zip_all : {X : Type 0} (R : X → X → Type 0) (p : X → Bool) → ((x y : X) → R x y → p y ≡ true) → (xs ys : List X)
     → AllZip R xs ys → list_all p ys ≡ true
-zip_all R p turn [] [] h = refl
-zip_all R p turn [] (y ∷ ys) h = absurd h
-zip_all R p turn (x ∷ xs) [] h = absurd h
-zip_all R p turn (x ∷ xs) (y ∷ ys) h = and_from (p y) (list_all p ys) (turn x y h.0) (zip_all R p turn xs ys h.1)
+zip_all R p turn (x ∷ xs) (y ∷ ys) h = grind (arith, turn x y h.0, zip_all R p turn xs ys h.1)
+zip_all R p turn xs ys h = grind arith
 
 module _ (os : List Occurrence) (Seen : ℕ → Type 0) where
   field_typed : (scope : List ℕ) (f g : FieldDesc) → IsTypedField os Seen scope f g → field_resolved g ≡ true

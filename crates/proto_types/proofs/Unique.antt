@@ -1,5 +1,5 @@
 -- The same occurrences, as far as they are seen, give one file with its types resolved.
-use Rattle.std.proofs.Common.{arith, ◌≡◌, ℕ, List, [], ◌∷◌, refl, inl, inr}
+use Rattle.std.proofs.Common.{arith, ◌≡◌, ℕ, List, ◌∷◌, refl, inl, inr}
 use Rattle.std.specs.List.{AllZip}
 use Rattle.proto_base.specs.declared.spot.Spot.{Spot}
 use Rattle.proto_desc.specs.declared.field.FieldDesc.{FieldDesc}
@@ -27,14 +27,10 @@ named_same : (a b : TypeKind) → named_by a ≡ named_by b → a ≡ b
 named_same a b e = grind arith
 
 -- lists of what one list is made into
-zip_same : {X : Type 0} (R S : X → X → Type 0) → ((x y z : X) → R x y → S x z → y ≡ z) → (xs ys zs : List X)
-    → AllZip R xs ys → AllZip S xs zs → ys ≡ zs
-zip_same R S one [] [] [] h k = refl
-zip_same R S one [] [] (z ∷ zs) h k = absurd k
-zip_same R S one [] (y ∷ ys) zs h k = absurd h
-zip_same R S one (x ∷ xs) [] zs h k = absurd h
-zip_same R S one (x ∷ xs) (y ∷ ys) [] h k = absurd k
+pub zip_same : {X Y : Type 0} (R S : X → Y → Type 0) → ((x : X) (y z : Y) → R x y → S x z → y ≡ z) → (xs : List X)
+    (ys zs : List Y) → AllZip R xs ys → AllZip S xs zs → ys ≡ zs
 zip_same R S one (x ∷ xs) (y ∷ ys) (z ∷ zs) h k = cc (one x y z h.0 k.0, zip_same R S one xs ys zs h.1 k.1)
+zip_same R S one xs ys zs h k = grind arith
 
 -- messages that are the same outside are the same
 out_same : (m n : MessageDesc) → out-MessageDesc m ≡ out-MessageDesc n → m ≡ n

@@ -1,9 +1,8 @@
 -- What walks over references find and put, one behind another.
-use Rattle.std.proofs.Common.{inr, ◌≡◌, ◌∙◌, sym, ℕ, ◌+◌, ◌<◌, ◌≤◌, List, [], ◌∷◌, ◌++◌, append_assoc, ap, arith, get_or, get_or-set_other, le_refl, length, length-set, refl, set, take}
-use Rattle.std.proofs.lemmas.List.{append-nil, take_more, take_more_set}
+use Rattle.std.proofs.Common.{inr, ◌≡◌, ◌∙◌, sym, ℕ, ◌+◌, ◌<◌, ◌≤◌, List, [], ◌∷◌, ◌++◌, append_assoc, ap, arith, get_or, get_or-set_other, le_refl, length, length-set, refl, set, take, append-nil, Some, None}
+use Rattle.std.proofs.lemmas.List.{take_more, take_more_set}
 use Rattle.std.proofs.lemmas.List.Concat.{flat_map-append}
 use Rattle.std.specs.List.{AllZip}
-use Rattle.std.specs.Prelude.{Some, None}
 use Rattle.std.proofs.lemmas.Slice.Zip.{all_zipped_more}
 use Rattle.proto_base.proofs.Among.{least_append, least_nil, least_single}
 use Rattle.proto_base.proofs.Sets.{lesser_none, none_of}
@@ -53,8 +52,8 @@ zip_split : (os : List Occurrence) (Seen : ℕ → Type 0) (rs qs : List Referen
 zip_split os Seen [] qs types all = ([], types, refl, tt, all)
 zip_split os Seen (r ∷ rs) qs [] all = absurd all
 zip_split os Seen (r ∷ rs) qs (t ∷ types) all =
-    let rest = zip_split os Seen rs qs types all.1 in
-    (t ∷ rest.0, rest.1, ap (λ (zs : List NamedType). t ∷ zs) rest.2, (all.0, rest.3), rest.4)
+    let (ts, us, parts, first, second) = zip_split os Seen rs qs types all.1 in
+    (t ∷ ts, us, cc parts, (all.0, first), second)
 
 pub puts_both : {P Q : Type 0} {a b c : List NamedType} (os : List Occurrence) (Seen : ℕ → Type 0)
     (rs qs : List Reference) → Puts os Seen rs P a b → Puts os Seen qs Q b c

@@ -52,23 +52,44 @@ fn fill_kind<'s>(kind: &mut FieldKind<'s>, types: &mut VecDeque<NamedType>)
     }
 }
 
-fn fill_field<'s>(field: &mut FieldDesc<'s>, types: &mut VecDeque<NamedType>)
-    ensures { IsFilled references_of_field IsTypedField field.old field.new types.old.items
-        types.new.items }
-{
-    fill_kind(&mut field.field_type, types);
+/// An item of a row, in which names of types are spelled.
+trait Fill {
+    ghost use Rattle.std.specs.Prelude.{ℕ, List};
+    ghost use Rattle.proto_names.specs.Occurrences.{Occurrence};
+    ghost use Rattle.proto_types.specs.References.{Reference};
+    ghost use Rattle.proto_types.specs.Steps.{IsFilled};
+
+    /// These names, in a scope.
+    ghost references: { List ℕ → Self → List Reference };
+
+    /// Whether another item is this one with its names resolved.
+    ghost typed: { List Occurrence → (ℕ → Type 0) → List ℕ → Self → Self → Type 0 };
+
+    /// Puts the next types where names are spelled.
+    fn fill(&mut self, alloc: Global, types: &mut VecDeque<NamedType>)
+        ensures { IsFilled references typed self.old self.new types.old.items types.new.items };
 }
 
-fn fill_fields<'s>(alloc: Global, fields: &mut Row<FieldDesc<'s>>, types: &mut VecDeque<NamedType>)
-    ensures { AreFilled references_of_field IsTypedField fields.old fields.new types.old.items
-        types.new.items }
+/// Fills the items of a row, one after the other.
+fn fill_row<T: Fill + Drop>(alloc: Global, row: &mut Row<T>, types: &mut VecDeque<NamedType>)
+    ensures { AreFilled T.references T.typed row.old row.new types.old.items types.new.items }
 {
-    let mut list = mem::replace(fields, Row::new(alloc)).into_vec();
+    let mut list = mem::replace(row, Row::new(alloc)).into_vec();
     for position in 0..list.len() {
-        fill_field(&mut list[position], types);
+        list[position].fill(alloc, types);
     }
     let mut filled = Row::from_vec(list);
-    mem::swap(fields, &mut filled);
+    mem::swap(row, &mut filled);
+}
+
+impl<'s> Fill for FieldDesc<'s> {
+    ghost references = { references_of_field };
+
+    ghost typed = { IsTypedField };
+
+    fn fill(&mut self, _alloc: Global, types: &mut VecDeque<NamedType>) {
+        fill_kind(&mut self.field_type, types);
+    }
 }
 
 /// A message, with all within it.
@@ -77,7 +98,7 @@ fn fill_message<'s>(alloc: Global, message: &mut MessageDesc<'s>, types: &mut Ve
     ensures { IsFilled (λ scope m. references_by_message m scope) IsTypedMessage message.old
         message.new types.old.items types.new.items }
 {
-    fill_fields(alloc, &mut message.fields, types);
+    fill_row(alloc, &mut message.fields, types);
     fill_messages(alloc, &mut message.nested, types);
 }
 
@@ -98,51 +119,25 @@ fn fill_messages<'s>(
     mem::swap(messages, &mut filled);
 }
 
-fn fill_method<'s>(method: &mut MethodDesc<'s>, types: &mut VecDeque<NamedType>)
-    ensures { IsFilled references_of_method IsTypedMethod method.old method.new types.old.items
-        types.new.items }
-{
-    fill_reference(&mut method.input, types);
-    fill_reference(&mut method.output, types);
-}
+impl<'s> Fill for MethodDesc<'s> {
+    ghost references = { references_of_method };
 
-fn fill_methods<'s>(
-    alloc: Global,
-    methods: &mut Row<MethodDesc<'s>>,
-    types: &mut VecDeque<NamedType>,
-)
-    ensures { AreFilled references_of_method IsTypedMethod methods.old methods.new
-        types.old.items types.new.items }
-{
-    let mut list = mem::replace(methods, Row::new(alloc)).into_vec();
-    for position in 0..list.len() {
-        fill_method(&mut list[position], types);
+    ghost typed = { IsTypedMethod };
+
+    fn fill(&mut self, _alloc: Global, types: &mut VecDeque<NamedType>) {
+        fill_reference(&mut self.input, types);
+        fill_reference(&mut self.output, types);
     }
-    let mut filled = Row::from_vec(list);
-    mem::swap(methods, &mut filled);
 }
 
-fn fill_service<'s>(alloc: Global, service: &mut ServiceDesc<'s>, types: &mut VecDeque<NamedType>)
-    ensures { IsFilled references_of_service IsTypedService service.old service.new
-        types.old.items types.new.items }
-{
-    fill_methods(alloc, &mut service.methods, types);
-}
+impl<'s> Fill for ServiceDesc<'s> {
+    ghost references = { references_of_service };
 
-fn fill_services<'s>(
-    alloc: Global,
-    services: &mut Row<ServiceDesc<'s>>,
-    types: &mut VecDeque<NamedType>,
-)
-    ensures { AreFilled references_of_service IsTypedService services.old services.new
-        types.old.items types.new.items }
-{
-    let mut list = mem::replace(services, Row::new(alloc)).into_vec();
-    for position in 0..list.len() {
-        fill_service(alloc, &mut list[position], types);
+    ghost typed = { IsTypedService };
+
+    fn fill(&mut self, alloc: Global, types: &mut VecDeque<NamedType>) {
+        fill_row(alloc, &mut self.methods, types);
     }
-    let mut filled = Row::from_vec(list);
-    mem::swap(services, &mut filled);
 }
 
 /// A file, with a type for each name of a type that it spells.
@@ -151,5 +146,5 @@ pub(crate) fn fill_file<'s>(alloc: Global, file: &mut FileDesc<'s>, types: &mut 
         types.new.items }
 {
     fill_messages(alloc, &mut file.messages, types);
-    fill_services(alloc, &mut file.services, types);
+    fill_row(alloc, &mut file.services, types);
 }

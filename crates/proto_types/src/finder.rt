@@ -6,7 +6,7 @@ ghost use Rattle.proto_desc.specs.DeclaredNames.{file_scope};
 ghost use Rattle.proto_links.specs.Linked.{count_of};
 ghost use Rattle.proto_names.specs.Resolution.{SeenBy};
 ghost use Rattle.proto_types.specs.References.{reference_to, references_of_type, references_of_field, references_by_message, references_of_method, references_of_service, references};
-ghost use Rattle.proto_types.specs.Recalling.{AreRecalled, IsMeaningBy, IsNamed};
+ghost use Rattle.proto_types.specs.Recalling.{AreRecalled, IsMeaningBy};
 ghost use Rattle.proto_types.specs.Steps.{Finds, IsMeaning};
 
 use crate::found::Found;

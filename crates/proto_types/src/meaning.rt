@@ -50,19 +50,27 @@ fn is_packed(option: &OptionDesc) -> bool
     option.number == PACKED && matches!(option.value, OptionValue::Number(1))
 }
 
+/// An option that sets `packed`, as a fault.
+fn option_fault(option: &OptionDesc) -> Option<Spot>
+    ensures { IsLeast (SetsPacked option.now) result }
+{
+    if is_packed(option) {
+        Some(Spot {
+            place: option.place,
+            kind: Kind::PackedOnMessage,
+        })
+    } else {
+        None
+    }
+}
+
 /// The first option that sets `packed`, as a fault.
 fn packed_fault(options: &[OptionDesc]) -> Option<Spot>
     ensures { IsLeast (Each options.now SetsPacked) result }
 {
     let mut first = None;
     for option in options {
-        if is_packed(option) {
-            let here = Some(Spot {
-                place: option.place,
-                kind: Kind::PackedOnMessage,
-            });
-            first = lesser(first, here);
-        }
+        first = lesser(first, option_fault(option));
     }
     first
 }

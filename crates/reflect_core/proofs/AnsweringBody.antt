@@ -1,9 +1,7 @@
 -- What the steps of an answer give, as the response to a body.
-use Rattle.std.proofs.Common.{◌≡◌, ℕ, zero, suc, ◌<◌, ◌≤◌, List, [], ◌∷◌, ◌++◌, length, map, get_or, ap, arith, refl, All, Bool, filter, inl, inr, not, ◌||◌}
+use Rattle.std.proofs.Common.{◌≡◌, ℕ, zero, suc, ◌<◌, ◌≤◌, List, [], ◌∷◌, ◌++◌, length, map, get_or, ap, arith, refl, All, Bool, filter, inl, inr, not, ◌||◌, Option, Some, None, Contains, Vec, ◌==◌, Global}
 use Rattle.std.specs.Set.{is_member}
-use Rattle.std.specs.Prelude.{Option, Some, None, Contains, Vec, ◌==◌}
 use Rattle.std.specs.List.{AllZip}
-use Rattle.std.specs.declared.alloc.Global.{Global}
 use Rattle.std.proofs.lemmas.List.{length-map}
 use Rattle.std.proofs.lemmas.List.Elements.{All-head, All-map, All-tail}
 use Rattle.std.proofs.lemmas.Slice.Zip.{AllZip-long}

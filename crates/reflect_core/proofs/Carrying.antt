@@ -1,6 +1,5 @@
 -- The files of a reply: files of the compilation, and no more bytes than the set.
-use Rattle.std.proofs.Common.{ℕ, zero, suc, ◌+◌, ◌≤◌, List, ◌∷◌, length, ap, arith, length-append, refl, Bool, not, eqb, eq-eqb, filter}
-use Rattle.std.specs.Prelude.{Some, flat_map, Contains}
+use Rattle.std.proofs.Common.{ℕ, zero, suc, ◌+◌, ◌≤◌, List, ◌∷◌, length, ap, arith, length-append, refl, Bool, not, eqb, eq-eqb, filter, Some, flat_map, Contains}
 use Rattle.std.proofs.lemmas.List.Concat.{length-flat_map}
 use Rattle.std.proofs.lemmas.List.Filters.{sum_by-filter_both}
 use Rattle.std.proofs.lemmas.List.Sums.{get_or-le-sum_by}

@@ -1,6 +1,5 @@
 -- The errors of replies, byte by byte.
-use Rattle.std.proofs.Common.{◌≡◌, [], ◌∷◌, refl}
-use Rattle.std.specs.Prelude.{codes}
+use Rattle.std.proofs.Common.{◌≡◌, [], ◌∷◌, refl, codes}
 use Rattle.wire_format.specs.Varint.{varint_bytes, groups}
 use Rattle.reflect_core.specs.Reply.{error_bytes}
 

@@ -1,6 +1,5 @@
 -- What an index finds, as what a compilation declares.
-use Rattle.std.proofs.Common.{◌≡◌, ◌∙◌, ℕ, List, Some, sym}
-use Rattle.std.specs.Prelude.{Contains}
+use Rattle.std.proofs.Common.{◌≡◌, ◌∙◌, ℕ, List, Some, sym, Contains}
 use Rattle.std.proofs.lemmas.Option.{none-some}
 use Rattle.proto_compile.specs.Compilation.{Compilation}
 use Rattle.proto_desc.specs.declared.name_kind.NameKind.{NameKind}

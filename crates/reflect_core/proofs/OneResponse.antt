@@ -1,7 +1,6 @@
 -- Sources give a body one response.
-use Rattle.std.proofs.Common.{◌≡◌, ◌∙◌, ◌++◌, sym, ℕ, ◌<◌, List, [], ◌∷◌, map, ap, refl, arith, Option, Some, None, length}
-use Rattle.std.specs.Prelude.{Contains, flat_map}
-use Rattle.std.specs.List.{AllZip, zip}
+use Rattle.std.proofs.Common.{◌≡◌, ◌∙◌, ◌++◌, sym, ℕ, ◌<◌, List, [], ◌∷◌, map, ap, refl, arith, Option, Some, None, length, Contains, flat_map, zip}
+use Rattle.std.specs.List.{AllZip}
 use Rattle.std.proofs.lemmas.Option.{none-some, same_Some}
 use Rattle.first_reach.specs.Carried.{carried, carried_from, reached, root_first}
 use Rattle.first_reach.specs.declared.mode.Mode.{Mode}

@@ -1,5 +1,5 @@
 -- From the first fault of sources to those that are told.
-use Rattle.std.proofs.Common.{◌≡◌, ◌≢◌, sym, ap, subst, refl, List, [], ◌∷◌, inl, inr, Option, Some, map, arith}
+use Rattle.std.proofs.Common.{◌≡◌, ◌≢◌, sym, ap, subst, refl, List, [], ◌∷◌, inl, inr, Option, Some, map, arith, Contains}
 use Rattle.file_faults.specs.OwnFaults.{AreFileFaults, HasFault, NamesDiffer}
 use Rattle.file_faults.proofs.Placing.{placed}
 use Rattle.file_faults.proofs.Telling.{every_fault, no_other}
@@ -12,7 +12,6 @@ use Rattle.proto_compile.specs.declared.error.CompileError.{CompileError}
 use Rattle.proto_compile.specs.declared.error.CompileError.TheVariants as errors
 use Rattle.proto_compile.specs.declared.source.Source.{Source}
 use Rattle.schema_check.specs.Told.{ArePlaced, AreTold, IsFirst}
-use Rattle.std.specs.Prelude.{Contains}
 use Rattle.share_work.proofs.Sums.{in_map, none_in}
 
 -- what is broken in the pass over each source by itself is a source's own fault

@@ -1,9 +1,8 @@
 -- From the writing of each file to that of a set.
-use Rattle.std.proofs.Common.{◌≡◌, ℕ, ◌+◌, ◌≤◌, List, [], ◌∷◌, ◌++◌, ◌<◌, length, get_or, arith, refl}
-use Rattle.std.specs.Prelude.{take, drop, flat_map, Result, Ok, Err, OnOk, OnErr, Contains}
+use Rattle.std.proofs.Common.{◌≡◌, ℕ, ◌+◌, ◌≤◌, List, [], ◌∷◌, ◌++◌, ◌<◌, length, get_or, arith, refl, take, drop, flat_map, Result, Ok, Err, OnOk, OnErr, Contains, append_assoc, append-nil, length-append, take-append-drop}
 use Rattle.std.proofs.lemmas.Grind.{flat_map-append}
 use Rattle.std.proofs.KnownBytes.{Appends-trans}
-use Rattle.std.proofs.lemmas.List.{append_assoc, append-nil, length-append, take-append-drop, take-append-le, take_more}
+use Rattle.std.proofs.lemmas.List.{take-append-le, take_more}
 use Rattle.std.proofs.lemmas.List.Elements.{Contains-get_or}
 use Rattle.std.proofs.Math.Seq.{take-append-add}
 use Rattle.grpcweb_core.specs.Streams.{Writes}

@@ -1,6 +1,5 @@
 -- One source by itself.
-use Rattle.std.proofs.Common.{◌≡◌, ◌∙◌, sym, ap, refl, ℕ, zero, suc, ◌<◌, List, [], ◌∷◌, map, length, get_or, arith}
-use Rattle.std.specs.Prelude.{Contains, IsPermutation}
+use Rattle.std.proofs.Common.{◌≡◌, ◌∙◌, sym, ap, refl, ℕ, zero, suc, ◌<◌, List, [], ◌∷◌, map, length, get_or, arith, Contains, IsPermutation}
 use Rattle.std.proofs.lemmas.List.{length-map}
 use Rattle.std.proofs.lemmas.List.Sorted.{Contains-permutation, length_permutation}
 use Rattle.proto_links.specs.Linked.{count_of}

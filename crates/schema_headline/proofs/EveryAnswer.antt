@@ -1,7 +1,5 @@
 -- What sources give is one thing, or their first fault.
-use Rattle.std.proofs.Common.{◌≡◌, refl, ℕ, List, Result, Ok, Err}
-use Rattle.std.specs.Prelude.{IfErr, IfOk, IsErrAnd, MatchResult, Vec}
-use Rattle.std.specs.declared.alloc.Global.{Global}
+use Rattle.std.proofs.Common.{◌≡◌, refl, ℕ, List, Result, Ok, Err, IfErr, IfOk, IsErrAnd, MatchResult, Vec, Global}
 use Rattle.proto_base.specs.declared.limits.Limits.{Limits}
 use Rattle.proto_compile.specs.Compilation.{Compilation, IsCompiled}
 use Rattle.proto_compile.specs.FaultSet.{IsLeastFault, SourceFault, TellsOf, told_by}

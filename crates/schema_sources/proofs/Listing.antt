@@ -1,8 +1,7 @@
 -- Laws of sources that are read under the names of a folder.
-use Rattle.std.proofs.Common.{◌≡◌, ◌∙◌, sym, ap, refl, subst, ℕ, ◌+◌, ◌<◌, All, Global, List, String, [], ◌∷◌, ◌++◌, arith, drop, get_or, inr, length, map, string_bytes, take}
-use Rattle.std.specs.Prelude.{Ok, Err, Some, None}
-use Rattle.std.specs.List.{AllZip, Contains}
-use Rattle.std.proofs.lemmas.List.{drop_more, map-append, take-append-drop}
+use Rattle.std.proofs.Common.{◌≡◌, ◌∙◌, sym, ap, refl, subst, ℕ, ◌+◌, ◌<◌, All, Global, List, String, [], ◌∷◌, ◌++◌, arith, drop, get_or, inr, length, map, string_bytes, take, Ok, Err, Some, None, Contains, take-append-drop}
+use Rattle.std.specs.List.{AllZip}
+use Rattle.std.proofs.lemmas.List.{drop_more, map-append}
 use Rattle.std.proofs.lemmas.List.Elements.{All-contains, All-head, All-tail, Contains-get_or}
 use Rattle.share_work.proofs.Giving.{all_of_gives}
 use Rattle.share_work.specs.Shares.{GivesItems}

@@ -1,7 +1,5 @@
 -- What a text imports.
-use Rattle.std.proofs.Common.{◌≡◌, sym, subst, ℕ, List, [], map, arith}
-use Rattle.std.specs.Prelude.{flat_map, filter}
-use Rattle.std.specs.List.{Contains}
+use Rattle.std.proofs.Common.{◌≡◌, sym, subst, ℕ, List, [], map, arith, flat_map, filter, Contains}
 use Rattle.proto_base.specs.Limits.{limit_of}
 use Rattle.proto_base.specs.declared.limits.Limit.TheVariants as limit
 use Rattle.proto_base.specs.declared.limits.Limits.{Limits}

@@ -1,11 +1,9 @@
 -- Rounds of a search, and its end.
-use Rattle.std.specs.Prelude.{◌↔◌}
 use Rattle.share_work.proofs.Sums.{in_map}
-use Rattle.std.proofs.Common.{◌≡◌, ◌∙◌, sym, ap, refl, subst, ℕ, All, List, [], ◌∷◌, map, length, take, drop, Bool, true, Some, None, Vec, Global, arith}
-use Rattle.std.specs.Prelude.{String, IfSome, flat_map}
-use Rattle.std.specs.List.{AllZip, Contains}
+use Rattle.std.proofs.Common.{◌≡◌, ◌∙◌, sym, ap, refl, subst, ℕ, All, List, [], ◌∷◌, map, length, take, drop, Bool, true, Some, None, Vec, Global, arith, ◌↔◌, String, IfSome, flat_map, Contains, take-append-drop, take_all}
+use Rattle.std.specs.List.{AllZip}
 use Rattle.std.specs.List.Sorted.{IsPermutation}
-use Rattle.std.proofs.lemmas.List.{drop-map, length-map, take-append-drop, take-append-le, take_all}
+use Rattle.std.proofs.lemmas.List.{drop-map, length-map, take-append-le}
 use Rattle.std.proofs.lemmas.List.Elements.{All-append, All-contains, All-cons, All-drop, All-head, All-map, All-nil, All-tail, All-weaker}
 use Rattle.std.proofs.lemmas.List.Sorted.{Contains-permutation, IsPermutation-map, IsPermutation-sym}
 use Rattle.proto_base.specs.declared.limits.Limits.{Limits}

@@ -1,5 +1,4 @@
-use Rattle.std.proofs.Common.{sym, arith, [], refl}
-use Rattle.std.proofs.lemmas.List.{append-nil, take_all}
+use Rattle.std.proofs.Common.{sym, arith, [], refl, append-nil, take_all}
 use Rattle.grpcweb_core.proofs.Judging.{semicolon}
 use Rattle.grpcweb_core.proofs.content_type.is_behind_type.Goals as goal
 

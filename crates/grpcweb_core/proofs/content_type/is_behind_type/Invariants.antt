@@ -1,5 +1,4 @@
-use Rattle.std.proofs.Common.{All}
-use Rattle.std.specs.Prelude.{take}
+use Rattle.std.proofs.Common.{All, take}
 use Rattle.grpcweb_core.specs.Http.{IsBlank}
 use Rattle.grpcweb_core.proofs.content_type.is_behind_type.Given as goal
 

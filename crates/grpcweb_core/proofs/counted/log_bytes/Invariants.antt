@@ -1,5 +1,4 @@
-use Rattle.std.proofs.Common.{◌≡◌, ◌++◌}
-use Rattle.std.specs.Prelude.{take}
+use Rattle.std.proofs.Common.{◌≡◌, ◌++◌, take}
 use Rattle.grpcweb_core.specs.Counting.{bytes_of}
 use Rattle.grpcweb_core.proofs.counted.log_bytes.Given as goal
 

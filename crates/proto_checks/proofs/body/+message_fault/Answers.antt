@@ -30,7 +30,5 @@ loop-item-preserved t c =
 
 pub returns : goal.returns
 returns t c =
-    rw (
-      take_all c.loop-item.item-index c.as_slice-items.result.now (omega arith),
-      c.as_slice-items.ensures,
-    ) at c.loop-item.invariant
+    let all = take_all c.loop-item.item-index c.as_slice-items.result.now (omega arith) in
+    rw (all, c.as_slice-items.ensures) at c.loop-item.invariant

@@ -1,7 +1,13 @@
-use Rattle.proto_checks.proofs.Items.{item_oneof}
+use Rattle.proto_options.specs.Statements.{oneof_field}
+use Rattle.proto_checks.specs.Elements.{EnumBreaks, OneofBreaks}
+use Rattle.proto_checks.specs.Options.{FieldOptionsBreak, optioned_in_oneof}
+use Rattle.proto_base.proofs.Among.{each_map, least_nil, least_single}
+use Rattle.proto_base.proofs.Sets.{least_union}
+use Rattle.proto_checks.proofs.Elements.{least_flat, least_left}
 use Rattle.proto_checks.proofs.body.oneof_item_fault.Goals as goal
 
 pub returns : goal.returns
-returns c = item_oneof c.args.oneof.now c.in_ok-members.members c.in_ok-own.own c.lesser.result
-    (rw c.as_slice.ensures at c.in_ok-members.ensures)
-    c.in_ok-own.ensures c.lesser.ensures
+returns c = least_left (least_union
+    (each_map FieldOptionsBreak optioned_in_oneof _ _
+    (least_flat _ oneof_field _ _ (rw c.as_slice.ensures at c.in_ok-members.ensures)))
+    (least_single OneofBreaks _ _ c.in_ok-own.ensures) c.lesser.ensures) (least_nil EnumBreaks)

@@ -1,9 +1,11 @@
+use Rattle.proto_options.specs.Statements.{enum_value}
 use Rattle.proto_base.proofs.Sets.{least_union}
+use Rattle.proto_checks.proofs.Elements.{least_flat}
 use Rattle.proto_checks.proofs.enumeration.enum_fault.Goals as goal
 
 pub returns : goal.returns
 returns c =
     let numbers = rw c.as_slice-items.ensures at c.in_ok-numbers.ensures in
     let own = rw c.as_slice-items.ensures at c.in_ok-own.ensures in
-    let values = rw c.as_slice-items.ensures at c.in_ok-values.ensures in
+    let values = least_flat _ enum_value _ _ (rw c.as_slice-items.ensures at c.in_ok-values.ensures) in
     search (least_union)

@@ -1,5 +1,4 @@
 use Rattle.proto_desc.specs.DeclaredNames.{file_scope}
-use Rattle.proto_checks.specs.Checks.{IsTooLong}
 use Rattle.proto_base.proofs.Among.{least_append}
 use Rattle.proto_checks.proofs.file.declared_lengths_fault.Goals as goal
 
@@ -7,9 +6,9 @@ pub returns : goal.returns
 returns c =
     let scope = file_scope c.args.desc.now.«package» in
     let len = c.scope_len-len.ensures in
-    let messages = rw c.as_slice.ensures at (c.messages_fault-messages.ensures scope len) in
-    let enums = rw c.as_slice-2.ensures at (c.enums_fault-enums.ensures scope len) in
-    let services = rw c.as_slice-3.ensures at (c.services_fault-services.ensures scope len) in
-    least_append (IsTooLong c.args.limits.now) _ _ _ _ _
-    (least_append (IsTooLong c.args.limits.now) _ _ _ _ _ messages enums c.lesser-types.ensures) services
+    let messages = rw c.as_slice.ensures at (c.first_length_fault-messages.ensures scope len) in
+    let enums = rw c.as_slice-2.ensures at (c.first_length_fault-enums.ensures scope len) in
+    let services = rw c.as_slice-3.ensures at (c.first_length_fault-services.ensures scope len) in
+    least_append _ _ _ _ _ _
+    (least_append _ _ _ _ _ _ messages enums c.lesser-types.ensures) services
     c.lesser.ensures

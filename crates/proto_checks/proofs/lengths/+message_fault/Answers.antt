@@ -1,6 +1,5 @@
 use Rattle.std.proofs.Common.{arith}
 use Rattle.proto_desc.specs.DeclaredNames.{declared_by_message}
-use Rattle.proto_checks.specs.Checks.{IsTooLong}
 use Rattle.proto_base.proofs.Among.{least_cons, behind_none, behind_more, behind_all}
 use Rattle.proto_desc.proofs.Declared.{own_declared, declared_before, declared_out, scope_in}
 use Rattle.proto_checks.proofs.lengths.+message_fault.Goals as goal
@@ -12,20 +11,19 @@ loop-nested-init t c = λ scope at.
     let len = rw c.as_str-name.ensures at (c.full_len-len.ensures scope at) in
     let inside = rw (c.as_slice-fields.ensures, c.as_slice-oneofs.ensures, c.as_slice.ensures) at
     (c.inside_fault-inside.ensures (scope_in m scope) len) in
-    behind_none (IsTooLong c.args.limits.now) (declared_before m scope) _
-    (least_cons (IsTooLong c.args.limits.now) (own_declared m scope) _ _ _ _ own inside c.lesser-first.ensures)
+    behind_none _ (declared_before m scope) _
+    (least_cons _ (own_declared m scope) _ _ _ _ own inside c.lesser-first.ensures)
 
 pub loop-nested-preserved : goal.loop-nested-preserved
 loop-nested-preserved t c = λ scope at.
     let m = c.args.message.now in
     let len = rw c.as_str-name.ensures at (c.full_len-len.ensures scope at) in
-    behind_more (IsTooLong c.args.limits.now) (λ n. declared_by_message n (scope_in m scope)) (declared_before m scope)
-    _ _ _ _ _ _ (omega arith) c.nested-item.is (c.loop-nested.invariant scope at)
-    (c.message_fault.ensures (scope_in m scope) len) c.lesser-first-in-loop-nested.ensures
+    behind_more _ (λ n. declared_by_message n (scope_in m scope)) (declared_before m scope) _ _ _ _ _ _ (omega arith)
+    c.nested-item.is (c.loop-nested.invariant scope at) (c.message_fault.ensures (scope_in m scope) len)
+    c.lesser-first-in-loop-nested.ensures
 
 pub returns : goal.returns
 returns t c = λ scope at.
     let m = c.args.message.now in
-    rw (declared_out m scope) (rw c.as_slice-nested-items.ensures at (behind_all (IsTooLong c.args.limits.now)
-    (λ n. declared_by_message n (scope_in m scope)) (declared_before m scope) c.as_slice-nested-items.result.now _ _
-    (omega arith) (c.loop-nested.invariant scope at)))
+    rw (declared_out m scope, ← c.as_slice-nested-items.ensures) (behind_all _ _ (declared_before m scope)
+    c.as_slice-nested-items.result.now _ _ (omega arith) (c.loop-nested.invariant scope at))

@@ -1,15 +1,14 @@
-use Rattle.std.proofs.Common.{◌≡◌, ℕ, List, take, ◌++◌}
+use Rattle.std.proofs.Common.{take, ◌++◌}
 use Rattle.std.specs.Prelude.{flat_map}
 use Rattle.proto_desc.specs.DeclaredNames.{declared_by_message}
 use Rattle.proto_checks.specs.Checks.{IsTooLong}
 use Rattle.proto_base.specs.Least.{IsLeast}
-use Rattle.proto_checks.specs.Lengths.{capped}
 use Rattle.proto_base.specs.Sets.{Each}
 use Rattle.proto_desc.proofs.Declared.{declared_before, scope_in}
+use Rattle.proto_checks.proofs.Elements.{InScope}
 use Rattle.proto_checks.proofs.lengths.+message_fault.Given as goal
 
 abbrev pub invariant-loop-nested : goal.invariant-loop-nested
-invariant-loop-nested l = (scope : List ℕ) → l.fn.scope_len ≡ capped scope
-    → IsLeast (Each (declared_before l.message scope
+invariant-loop-nested l = InScope l.fn.scope_len (λ scope. IsLeast (Each (declared_before l.message scope
     ++ flat_map (λ n. declared_by_message n (scope_in l.message scope)) (take l.nested-index l.nested-items))
-    (IsTooLong l.limits)) l.first
+    (IsTooLong l.limits)) l.first)

@@ -1,9 +1,8 @@
-use Rattle.proto_checks.specs.Checks.{IsTooLong}
 use Rattle.proto_base.proofs.Among.{least_append}
 use Rattle.proto_checks.proofs.lengths.inside_fault.Goals as goal
 
 pub returns : goal.returns
-returns c = λ scope at. least_append (IsTooLong c.args.limits.now) _ _ _ _ _
-    (least_append (IsTooLong c.args.limits.now) _ _ _ _ _ (c.members_fault-field.ensures scope at)
-    (c.members_fault-oneof.ensures scope at) c.lesser-member.ensures) (c.enums_fault-declared.ensures scope at)
+returns c = λ scope at. least_append _ _ _ _ _ _
+    (least_append _ _ _ _ _ _ (c.members_fault-field.ensures scope at)
+    (c.members_fault-oneof.ensures scope at) c.lesser-member.ensures) (c.first_length_fault-declared.ensures scope at)
     c.lesser.ensures

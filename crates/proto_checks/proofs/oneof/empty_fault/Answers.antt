@@ -1,11 +1,11 @@
 use Rattle.std.proofs.Common.{arith}
 use Rattle.std.proofs.lemmas.Grind.{common_steps}
-use Rattle.proto_checks.proofs.Empty.{some_member, no_members}
 use Rattle.proto_base.proofs.Sets.{least_hit, least_miss}
+use Rattle.proto_checks.proofs.Elements.{members_told}
 use Rattle.proto_checks.proofs.oneof.empty_fault.Goals as goal
 
 pub returns-then-has_member : goal.returns-then-has_member
-returns-then-has_member c = grind (arith, common_steps, least_miss, some_member)
+returns-then-has_member c = grind (arith, common_steps, least_miss, members_told)
 
 pub returns-else-has_member : goal.returns-else-has_member
-returns-else-has_member c = grind (arith, common_steps, least_hit, no_members)
+returns-else-has_member c = grind (arith, common_steps, least_hit, members_told)

@@ -1,12 +1,10 @@
 use Rattle.std.proofs.Common.{sym, arith}
-use Rattle.proto_checks.specs.Judged.{IsFaultOf}
-use Rattle.proto_base.proofs.Sets.{least_known}
-use Rattle.proto_base.proofs.Sets.{each_more, each_all}
+use Rattle.proto_base.proofs.Sets.{each_more, each_all, least_known}
 use Rattle.proto_checks.proofs.options.own_fault.Goals as goal
 
 pub loop-setting-preserved : goal.loop-setting-preserved
-loop-setting-preserved c = each_more _ IsFaultOf _ _ _ _ _ (omega arith, sym c.setting-item.is)
-    c.loop-setting.invariant (least_known c.setting-item.result.fault) c.lesser-first.ensures
+loop-setting-preserved c = each_more _ _ _ _ _ _ _ (omega arith, sym c.setting-item.is) c.loop-setting.invariant
+    (least_known _) c.lesser-first.ensures
 
 pub returns : goal.returns
-returns c = each_all _ IsFaultOf _ _ (omega arith) c.loop-setting.invariant
+returns c = each_all _ _ _ _ (omega arith) c.loop-setting.invariant

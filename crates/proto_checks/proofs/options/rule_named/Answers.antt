@@ -5,7 +5,7 @@ use Rattle.std.proofs.lemmas.Iterator.{YieldsList-from_slice}
 use Rattle.std.proofs.lemmas.Iterator.Search.{find_from_yields_List}
 use Rattle.proto_desc.specs.Rules.{rule_of}
 use Rattle.proto_checks.specs.Judged.{is_known_by}
-use Rattle.proto_checks.proofs.Tested.{found}
+use Rattle.proto_checks.proofs.Settling.{found_made}
 use Rattle.proto_checks.proofs.options.rule_named.Goals as goal
 
 pub returns : goal.returns
@@ -14,4 +14,4 @@ returns c =
     let by_name = is_known_by c.args.setting.now in
     ap (option_map rule_of) (find_from_yields_List (λ row. by_name (rule_of row)) _ _ c.find.result c.find.ensures.ran
     (YieldsList-from_slice rows cc) (λ row b q k. search (rules, tests)))
-    ∙ found by_name rule_of rows ∙ ap (find by_name) c.rules.ensures
+    ∙ found_made by_name rule_of rows ∙ ap (find by_name) c.rules.ensures

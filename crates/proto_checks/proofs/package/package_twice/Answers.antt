@@ -1,9 +1,9 @@
-use Rattle.std.proofs.Common.{◌≡◌, [], ◌∷◌, refl, arith, take_all}
+use Rattle.std.proofs.Common.{◌≡◌, [], arith, take_all}
 use Rattle.std.proofs.lemmas.List.{append-nil}
 use Rattle.proto_base.proofs.Among.{taken}
 use Rattle.std.proofs.lemmas.Grind.{common_steps}
 use Rattle.proto_options.specs.Statements.{file_package}
-use Rattle.proto_checks.proofs.Packages.{repeated_none, repeated_more}
+use Rattle.proto_checks.proofs.Clashes.{repeated_none, repeated_more}
 use Rattle.proto_checks.proofs.package.package_twice.Goals as goal
 use Rattle.proto_checks.proofs.package.package_twice.Goals.{in-Package, in_default}
 
@@ -15,10 +15,8 @@ loop-statement-preserved c =
     let more = taken file_package c.args.statements.now c.loop-statement.statement-index c.statement-item.result
     (omega arith) c.statement-item.is in
     elim c.match-statement.branch [
-      | in-Package w ↦ (
-          let one : file_package c.statement-item.result ≡ w.in-Package.«package» ∷ [] = rw w.in-Package.is refl in
-          rw (w.first-is, w.is_named-is, more, one) (repeated_more _ _ _ _ _ _ c.loop-statement.invariant
-          (rw w.get.ensures at w.again_fault.ensures) w.lesser-first.ensures))
+      | in-Package w ↦ rw (w.first-is, w.is_named-is, more, w.in-Package.is) (repeated_more _ _ _ _ _ _
+          c.loop-statement.invariant (rw w.get.ensures at w.again_fault.ensures) w.lesser-first.ensures)
       | in_default w ↦ (let none : file_package c.statement-item.result ≡ [] = grind (arith, common_steps) in
           rw (w.first-is, w.is_named-is, more, none, append-nil) c.loop-statement.invariant)
     ]

@@ -1,7 +1,7 @@
 use Rattle.std.proofs.Common.{take}
 use Rattle.std.specs.Prelude.{flat_map}
 use Rattle.proto_options.specs.Statements.{file_package}
-use Rattle.proto_checks.proofs.Packages.{Repeated}
+use Rattle.proto_checks.proofs.Clashes.{Repeated}
 use Rattle.proto_checks.proofs.package.package_twice.Given as goal
 
 abbrev pub invariant-loop-statement : goal.invariant-loop-statement

@@ -12,6 +12,5 @@ returns c = rw (c.as_slice-part-items.ensures ∙ ap (λ (n : FullName). n.rest)
     (omega arith) c.loop-part.invariant)
 
 pub loop-part-preserved : goal.loop-part-preserved
-loop-part-preserved c = with_more _ _ (λ part. IsPartTooLong c.args.limits.now c.args.place (part_name part)) _ _ _ _ _
-    (omega arith, sym c.part-item.is) c.loop-part.invariant
+loop-part-preserved c = with_more _ _ _ _ _ _ _ _ (omega arith, sym c.part-item.is) c.loop-part.invariant
     (rw (ap part_name c.part.view_is) at c.part_fault.ensures) c.lesser-first.ensures

@@ -3,11 +3,11 @@ use Rattle.std.specs.Prelude.{bytes_eq}
 use Rattle.std.proofs.lemmas.Iterator.{YieldsList-from_slice}
 use Rattle.std.proofs.lemmas.Iterator.Search.{any_from_yields_List}
 use Rattle.proto_checks.specs.Marks.{Marked}
-use Rattle.proto_checks.proofs.Tested.{mapped}
+use Rattle.proto_checks.proofs.Clashes.{any_made}
 use Rattle.proto_checks.proofs.repeats.text_stands_in.Goals as goal
 
 pub returns : goal.returns
 returns g c =
     any_from_yields_List (λ a. bytes_eq (g.T.HasText.mark a).text c.args.text.now) _ _ _ c.any.ensures.ran
     (YieldsList-from_slice c.args.items.now cc) (λ a b q k. search (rules, tests))
-    ∙ mapped (λ (t : Marked). bytes_eq t.text c.args.text.now) g.T.HasText.mark c.args.items.now
+    ∙ any_made (λ (t : Marked). bytes_eq t.text c.args.text.now) g.T.HasText.mark c.args.items.now

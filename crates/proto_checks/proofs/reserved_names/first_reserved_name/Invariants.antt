@@ -1,11 +1,9 @@
 use Rattle.std.proofs.Common.{map}
-use Rattle.proto_base.specs.Least.{IsLeast}
 use Rattle.proto_checks.specs.Marks.{IsReservedName}
 use Rattle.proto_checks.specs.Parts.{name_mark}
-use Rattle.proto_base.proofs.Sets.{EachTo}
+use Rattle.proto_checks.proofs.Elements.{LeastOf}
 use Rattle.proto_checks.proofs.reserved_names.first_reserved_name.Given as goal
 
 abbrev pub invariant-loop-member : goal.invariant-loop-member
 invariant-loop-member g l =
-    IsLeast (EachTo (map (name_mark g.D.Declares.declared) l.members) l.member-index
-    (IsReservedName l.fn.reserved)) l.first
+    LeastOf (IsReservedName l.fn.reserved) (map (name_mark g.D.Declares.declared) l.members) l.member-index l.first

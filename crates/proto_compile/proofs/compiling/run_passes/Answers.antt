@@ -1,6 +1,4 @@
-use Rattle.std.proofs.Common.{arith, List, rules, subst, sym}
-use Rattle.proto_compile.specs.Analysed.{AreResolved}
-use Rattle.proto_compile.specs.declared.source.Source.{Source}
+use Rattle.std.proofs.Common.{arith, rules}
 use Rattle.proto_compile.proofs.Making.{descs_for_each, written_of}
 use Rattle.proto_compile.proofs.compiling.run_passes.Goals as goal
 
@@ -12,11 +10,8 @@ returns-in_err-table-clause-first g c =
     let sources = c.args.sources.now in
     let resolved = (rw c.deref.ensures.value at c.in_ok-analysis.ensures.resolved) sources c.in_ok-files.ensures.few
     c.in_ok-files.ensures.files in
-    let analysis = c.in_ok-analysis.analysis in
-    let lookup = analysis.lookup in
-    let fact = c.in_err-table.ensures.first sources lookup.links lookup.index
-    (subst (λ (files : List Source). AreResolved c.args.limits.now sources files analysis.descs.items lookup.links
-    lookup.index) (sym c.deref-2.ensures.value) resolved) in
+    let lookup = c.in_ok-analysis.analysis.lookup in
+    let fact = c.in_err-table.ensures.first sources lookup.links lookup.index (rw c.deref-2.ensures.value resolved) in
     search (rules, fact)
 
 pub compilation_of-requires : goal.compilation_of-requires

@@ -1,9 +1,9 @@
 use Rattle.std.proofs.Common.{arith, ◌∙◌, rules}
-use Rattle.proto_compile.proofs.Making.{written_length}
+use Rattle.std.proofs.lemmas.List.{length-map}
 use Rattle.proto_compile.proofs.compiling.write_table.Goals as goal
 
 pub table_of-requires-clause-length : goal.table_of-requires-clause-length
-table_of-requires-clause-length g c = grind (arith, written_length)
+table_of-requires-clause-length g c = grind (arith, length-map)
 
 pub returns-clause-bytes : goal.returns-clause-bytes
 returns-clause-bytes g c = c.in_ok-table.ensures.bytes ∙ c.in_ok-written.ensures.bytes

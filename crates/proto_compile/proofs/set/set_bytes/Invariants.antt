@@ -1,5 +1,4 @@
-use Rattle.std.proofs.Common.{◌≡◌, take}
-use Rattle.std.specs.Prelude.{flat_map}
+use Rattle.std.proofs.Common.{◌≡◌, take, flat_map}
 use Rattle.proto_compile.specs.Compilation.{bytes_at}
 use Rattle.wire_format.specs.Field.{bytes_field}
 use Rattle.proto_compile.proofs.set.set_bytes.Given as goal

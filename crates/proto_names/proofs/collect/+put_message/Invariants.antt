@@ -1,5 +1,4 @@
-use Rattle.std.proofs.Common.{◌≡◌, ◌++◌, map, take}
-use Rattle.std.specs.Prelude.{flat_map}
+use Rattle.std.proofs.Common.{◌≡◌, ◌++◌, map, take, flat_map}
 use Rattle.proto_desc.specs.DeclaredNames.{declared_by_message}
 use Rattle.proto_desc.proofs.Declared.{declared_before, scope_in}
 use Rattle.proto_names.specs.Occurrences.{declared_occurrence}

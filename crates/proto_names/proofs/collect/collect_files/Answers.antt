@@ -1,5 +1,5 @@
 use Rattle.std.proofs.Common.{ap, ◌+◌, length, arith}
-use Rattle.proto_names.proofs.Collecting.{occurrences_more, occurrences_prefix}
+use Rattle.proto_names.proofs.Built.{occurrences_more, occurrences_prefix}
 use Rattle.proto_names.proofs.collect.collect_files.Goals as goal
 
 pub returns-then-len-limit : goal.returns-then-len-limit

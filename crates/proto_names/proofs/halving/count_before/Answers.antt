@@ -7,8 +7,7 @@ use Rattle.proto_names.specs.Keys.{at_key, found_by, hash_in}
 use Rattle.proto_names.specs.Index.{name_of}
 use Rattle.proto_names.specs.Occurrences.{Occurrence}
 use Rattle.proto_names.specs.Order.{name_cmp}
-use Rattle.proto_names.proofs.Searching.{parted_less, less_point}
-use Rattle.proto_names.proofs.Keying.{name_order, parted_keys, point_found}
+use Rattle.proto_names.proofs.Searching.{less_point, name_order, parted_keys, parted_less, point_found}
 use Rattle.proto_names.proofs.halving.count_before.Goals as goal
 
 pub returns-clause-point : goal.returns-clause-point

@@ -1,13 +1,11 @@
-use Rattle.std.proofs.Common.{refl, ℕ, rules}
+use Rattle.std.proofs.Common.{refl, ℕ, rules, nat_cmp, is_eq}
 use Rattle.std.specs.Cmp.Lexicographic.{slice_cmp}
-use Rattle.std.specs.Ordering.{nat_cmp, is_eq}
 use Rattle.std.proofs.lemmas.List.Sorted.{IsPartitionPoint-from_clause}
 use Rattle.proto_desc.specs.DeclaredNames.{scoped}
 use Rattle.proto_names.specs.Keys.{at_key, found_by}
 use Rattle.proto_names.specs.Index.{name_of}
 use Rattle.proto_names.specs.Occurrences.{Occurrence}
-use Rattle.proto_names.proofs.Searching.{parted_equal, equal_point}
-use Rattle.proto_names.proofs.Keying.{parted_keys, point_found}
+use Rattle.proto_names.proofs.Searching.{equal_point, parted_equal, parted_keys, point_found}
 use Rattle.proto_names.proofs.halving.count_named.Goals as goal
 
 pub returns-clause-point : goal.returns-clause-point

@@ -1,6 +1,6 @@
 use Rattle.std.proofs.lemmas.Grind.{common_steps}
 use Rattle.std.proofs.Common.{arith}
-use Rattle.proto_names.proofs.Unhashing.{hash_below, hash_end}
+use Rattle.proto_names.proofs.Starting.{hash_below, hash_end}
 use Rattle.proto_names.proofs.hashing.hash_before.Goals as goal
 
 pub loop-end-preserved : goal.loop-end-preserved

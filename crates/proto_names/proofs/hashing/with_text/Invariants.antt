@@ -1,5 +1,4 @@
-use Rattle.std.proofs.Common.{◌≡◌, take}
-use Rattle.std.specs.List.{fold}
+use Rattle.std.proofs.Common.{◌≡◌, take, fold}
 use Rattle.proto_names.specs.Hashes.{hash_step}
 use Rattle.proto_names.proofs.hashing.with_text.Given as goal
 

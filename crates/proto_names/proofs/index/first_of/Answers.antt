@@ -1,7 +1,9 @@
-use Rattle.std.proofs.Common.{arith}
+use Rattle.std.proofs.Common.{arith, inl, inr}
 use Rattle.std.proofs.lemmas.List.{map_more, take_all}
+use Rattle.std.proofs.lemmas.List.Elements.{Contains-append_left, Contains-push, Contains-push_cases}
+use Rattle.std.proofs.lemmas.Option.{none-some, same_Some}
 use Rattle.proto_names.specs.Shares.{twice_of}
-use Rattle.proto_names.proofs.Repeating.{first_kept, first_more}
+use Rattle.proto_names.proofs.Once.{first_kept, first_listed, first_more}
 use Rattle.proto_names.proofs.index.first_of.Goals as goal
 use Rattle.proto_names.proofs.index.first_of.Goals.{in-Some, in_default}
 
@@ -10,9 +12,14 @@ loop-share-preserved c =
     let more = map_more twice_of c.args.shares.now c.loop-share.share-index c.share-item.result (omega arith) in
     elim c.match-share.branch [
       | in-Some w ↦ rw (w.first-is, more, ← c.share-item.is, w.in-Some.is)
-          (first_more _ _ _ _ c.loop-share.invariant w.lesser.ensures)
-      | in_default w ↦ rw (w.first-is, more, ← c.share-item.is, w.in_default.is) (first_kept _ _ c.loop-share.invariant)
+          (first_more c.loop-share.invariant _ _ (λ l. Contains-append_left _ _ _) _ _ w.lesser.ensures
+          (Contains-push _ _)
+          (λ l within. elim (Contains-push_cases _ _ _ within) [ inl old ↦ inl old | inr e ↦ inr (same_Some _ _ e) ]))
+      | in_default w ↦ rw (w.first-is, more, ← c.share-item.is, w.in_default.is)
+          (first_kept c.loop-share.invariant _ _ (λ l. Contains-append_left _ _ _)
+          (λ l within. elim (Contains-push_cases _ _ _ within) [ inl old ↦ old | inr e ↦ absurd (none-some l e) ]))
     ]
 
 pub returns : goal.returns
-returns c = rw (take_all c.loop-share.share-index c.args.shares.now (omega arith)) at c.loop-share.invariant
+returns c = let all = take_all c.loop-share.share-index c.args.shares.now (omega arith) in
+    first_listed _ _ (rw all at c.loop-share.invariant)

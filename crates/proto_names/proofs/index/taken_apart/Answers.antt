@@ -1,8 +1,7 @@
-use Rattle.std.proofs.lemmas.Grind.{common_steps}
-use Rattle.std.proofs.Common.{arith}
-use Rattle.std.specs.Prelude.{string_bytes}
+use Rattle.std.proofs.Common.{arith, nat_cmp, string_bytes}
+use Rattle.std.specs.Cmp.Lexicographic.{slice_cmp}
 use Rattle.std.proofs.lemmas.List.Sorted.{IsPermutation-map}
-use Rattle.proto_names.proofs.Occurring.{sorted_texts}
+use Rattle.proto_names.proofs.Searching.{sorted_map}
 use Rattle.proto_names.proofs.Tabled.{all_taken}
 use Rattle.proto_names.proofs.index.taken_apart.Goals as goal
 
@@ -16,4 +15,4 @@ returns-clause-services c =
     (IsPermutation-map string_bytes l.services.items c.sort_unstable.new.self.items c.sort_unstable.ensures.permutation)
 
 pub returns-clause-order : goal.returns-clause-order
-returns-clause-order c = grind (arith, common_steps, sorted_texts)
+returns-clause-order c = sorted_map string_bytes (slice_cmp nat_cmp) _ c.sort_unstable.ensures.sorted

@@ -1,5 +1,5 @@
 use Rattle.std.proofs.Common.{arith}
-use Rattle.proto_names.proofs.Keying.{part_few}
+use Rattle.proto_names.proofs.Searching.{part_few}
 use Rattle.proto_names.proofs.keys.keys_of.Goals as goal
 
 pub put_keys-requires-clause-few : goal.put_keys-requires-clause-few

@@ -1,12 +1,10 @@
-use Rattle.std.proofs.lemmas.Grind.{common_steps}
-use Rattle.std.proofs.Common.{◌≡◌, ◌∙◌, ◌<◌, [], ap, ap₂, append_assoc, append-nil, arith, length, sym}
+use Rattle.std.proofs.Common.{◌≡◌, ◌∙◌, ◌<◌, [], ap, ap₂, append_assoc, append-nil, arith, length, ◌==◌}
 use Rattle.std.proofs.lemmas.List.{get_or_default}
-use Rattle.proto_names.specs.Hashes.{hash_of}
+use Rattle.std.proofs.lemmas.List.Elements.{filter_more}
 use Rattle.proto_names.specs.Keys.{IsKeyAmong, at_key, part_at}
-use Rattle.proto_names.specs.Occurrences.{Occurrence}
-use Rattle.proto_names.specs.Runs.{at}
-use Rattle.proto_names.proofs.Keying.{keys_more}
-use Rattle.proto_names.proofs.Shared.{share_more}
+use Rattle.proto_names.specs.Runs.{at, blank}
+use Rattle.proto_names.specs.Shares.{share_at}
+use Rattle.proto_names.proofs.Searching.{keys_more}
 use Rattle.proto_names.proofs.keys.put_keys.Goals as goal
 use Rattle.proto_names.proofs.keys.put_keys.Goals.{then-has+in_ok-push, else-has}
 
@@ -22,19 +20,16 @@ loop-index-preserved c =
     let inside : index < length here =
     omega (arith, ap length is, c.len-index-end.ensures, c.loop-index-test.true) in
     let hash = rw is at c.hash-hash.ensures in
-    let more = share_more c.args.share.count c.args.share.position index here c.has.result inside
-    (rw hash at c.has.ensures) in
+    let told = rw hash at c.has.ensures in
+    let more = rw (← told)
+    at (filter_more (λ o. share_at c.args.share.count o == c.args.share.position) here index blank inside) in
     elim c.if-has.branch [
       | then-has+in_ok-push w ↦
           let key = w.key_of.result in
           let put = w.key_of.ensures in
           let found : at_key parts key ≡ at here index = ap₂ (λ k i. at (part_at parts k) i) put.part put.index in
-          let among : IsKeyAmong parts key = record {
-            part = rw put.part c.requires.part;
-            index = rw (put.part, put.index) inside;
-            hashed = put.hash ∙ hash ∙ ap (λ (o : Occurrence). hash_of o.name) (sym found);
-          } in
+          let among : IsKeyAmong parts key = grind (arith, put, inside, hash, found) in
           rw w.keys-is (keys_more parts c.loop-index.keys.items _ c.loop-index.invariant key _ _ among
-          w.in_ok-push.ensures.items (grind (arith, common_steps, append_assoc, more, found)))
+          w.in_ok-push.ensures.items (grind (arith, append_assoc, more, found)))
       | else-has w ↦ rw (w.keys-is, more, w.if-has.false, append-nil) c.loop-index.invariant
     ]

@@ -1,5 +1,4 @@
-use Rattle.std.proofs.Common.{◌≡◌, ◌⊎◌, ℕ, ◌<◌}
-use Rattle.std.specs.Prelude.{◌↔◌}
+use Rattle.std.proofs.Common.{◌≡◌, ◌⊎◌, ℕ, ◌<◌, ◌↔◌}
 use Rattle.bit_matrix.specs.Bits.{has}
 use Rattle.bit_matrix.specs.Changes.{Has, IsAsLarge, columns_of}
 use Rattle.proto_names.specs.Runs.{at}

@@ -1,7 +1,6 @@
-use Rattle.std.proofs.Common.{◌≡◌, ◌∙◌, ◌+◌, ◌-◌, ◌/◌, ap, arith, drop, length, sym, take, take_all}
-use Rattle.std.proofs.Math.Nat.{div-le_self}
+use Rattle.std.proofs.Common.{◌≡◌, ◌∙◌, ◌+◌, ◌-◌, ◌/◌, ap, arith, drop, length, sym, take, take_all, div-le_self, length-take-le}
 use Rattle.std.proofs.lemmas.Grind.{common_steps}
-use Rattle.proto_names.proofs.Collecting.{files_more, placed_more}
+use Rattle.proto_names.proofs.Built.{files_more, placed_more}
 use Rattle.proto_names.proofs.parts.parts_of.Goals as goal
 
 pub slice_bounds-push-end : goal.slice_bounds-push-end
@@ -16,14 +15,14 @@ loop-k-preserved c =
     let parts = c.args.count - c.loop-k.k in
     let so_far = c.loop-k.invariant in
     let within = so_far.within in
-    let short : length (take first c.args.files.now) ≡ first = grind (arith, common_steps, within) in
     let same : first + rest / parts - first ≡ rest / parts = omega arith in
     let count = ap (λ n. take n (drop first c.args.files.now)) same in
     record {
       whole = rw c.in_ok-push.ensures.items
           (files_more _ c.loop-k.parts.items _ first (rest / parts) so_far.whole count);
       placed = rw c.in_ok-push.ensures.items
-          (placed_more c.loop-k.parts.items _ so_far.placed (sym (ap length so_far.whole ∙ short)));
+          (placed_more c.loop-k.parts.items _ so_far.placed
+          (sym (ap length so_far.whole ∙ length-take-le first c.args.files.now within)));
       count = grind (arith, common_steps);
       within = omega (arith, div-le_self rest parts, within);
       all = λ last. (let one : parts ≡ 1 = omega (arith, last) in rw one (omega (arith, within)));

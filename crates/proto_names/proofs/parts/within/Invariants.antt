@@ -1,5 +1,4 @@
-use Rattle.std.proofs.Common.{◌≡◌, ◌≤◌, ◌++◌, length, map, take}
-use Rattle.std.specs.Prelude.{Some}
+use Rattle.std.proofs.Common.{◌≡◌, ◌≤◌, ◌++◌, length, map, take, Some}
 use Rattle.proto_names.specs.Collected.{files_in}
 use Rattle.proto_names.specs.Occurrences.{occurrences_from}
 use Rattle.proto_names.specs.Shares.{all_of}

@@ -1,5 +1,4 @@
-use Rattle.std.proofs.Common.{◌≡◌, ℕ, length}
-use Rattle.std.specs.Prelude.{Some, slice_get}
+use Rattle.std.proofs.Common.{◌≡◌, ℕ, length, Some, slice_get}
 use Rattle.proto_names.specs.declared.share.Share.{Share}
 use Rattle.proto_names.proofs.shares.all_shares.Given as goal
 

@@ -1,5 +1,4 @@
-use Rattle.std.proofs.Common.{◌≡◌, map, take}
-use Rattle.std.specs.Prelude.{string_bytes}
+use Rattle.std.proofs.Common.{◌≡◌, map, take, string_bytes}
 use Rattle.proto_names.specs.Index.{services_of}
 use Rattle.proto_names.proofs.sorted.listed_services.Given as goal
 

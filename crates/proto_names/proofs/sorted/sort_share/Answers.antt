@@ -1,16 +1,14 @@
-use Rattle.std.proofs.lemmas.Grind.{common_steps}
-use Rattle.std.proofs.Common.{arith, ◌<◌, ℕ, List}
-use Rattle.std.specs.Prelude.{IsPermutation}
+use Rattle.std.proofs.Common.{arith, ◌<◌, ℕ, List, IsPermutation}
 use Rattle.bit_matrix.specs.Bits.{Bits}
 use Rattle.std.proofs.lemmas.List.Elements.{All-filter}
 use Rattle.std.proofs.lemmas.List.Sorted.{All-permutation, Contains-permutation, IsPermutation-sym, length_permutation}
 use Rattle.proto_names.specs.Occurrences.{Occurrence}
 use Rattle.proto_names.specs.ScopeHashes.{TellsScopes}
-use Rattle.proto_names.proofs.Shared.{share_few}
+use Rattle.std.proofs.lemmas.List.Sums.{count_by-le-length, length-filter}
 use Rattle.proto_names.proofs.sorted.sort_share.Goals as goal
 
 pub among-requires : goal.among-requires
-among-requires c = grind (arith, common_steps, share_few)
+among-requires c = grind (arith, count_by-le-length, length-filter)
 
 -- scopes are told of in any order
 told : (os moved : List Occurrence) (bits : Bits) (slots : ℕ) → IsPermutation os moved → TellsScopes os bits slots
@@ -20,10 +18,11 @@ told os moved bits slots same tells o within is =
 
 pub listed_services-requires : goal.listed_services-requires
 listed_services-requires c =
-    rw c.names-3.ensures (told _ _ c.in_ok-scopes.scopes.bits _ c.in_ok-entries.ensures.all (rw c.names.ensures at c.in_ok-scopes.ensures))
+    let scopes = rw c.names.ensures at c.in_ok-scopes.ensures in
+    rw c.names-3.ensures (told _ _ c.in_ok-scopes.scopes.bits _ c.in_ok-entries.ensures.all scopes)
 
 pub new-requires-clause-many : goal.new-requires-clause-many
-new-requires-clause-many c = grind (arith, common_steps, length_permutation, share_few)
+new-requires-clause-many c = grind (arith, length_permutation, count_by-le-length, length-filter)
 
 pub new-requires-clause-scopes : goal.new-requires-clause-scopes
 new-requires-clause-scopes c =

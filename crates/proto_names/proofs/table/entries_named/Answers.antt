@@ -1,28 +1,23 @@
-use Rattle.proto_desc.specs.DeclaredNames.{scoped}
-use Rattle.std.proofs.lemmas.Grind.{common_steps}
-use Rattle.std.proofs.Common.{◌≡◌, ◌∙◌, ap, length, take, drop, arith}
-use Rattle.std.proofs.lemmas.List.{length-take-le}
+use Rattle.std.proofs.Common.{◌≡◌, ◌∙◌, ap, length, take, drop, arith, length-take-le}
 use Rattle.std.proofs.lemmas.Option.{IfSome_then}
+use Rattle.share_work.proofs.Sums.{none_in}
 use Rattle.proto_names.proofs.Ordered.{order_names}
-use Rattle.proto_names.proofs.Searching.{drop_behind, none_is, run_is, start_point}
+use Rattle.proto_names.proofs.Searching.{named_at, run_is, start_behind}
 use Rattle.proto_names.proofs.table.entries_named.Goals as goal
 
 pub run_length-requires-clause-behind : goal.run_length-requires-clause-behind
 run_length-requires-clause-behind c = rw c.skip-behind.ensures
-    (drop_behind c.args.names.now (scoped c.args.scope.text.now c.args.name.now) c.in-Some.start
-    (omega (arith, c.in-Some.ensures.within))
-    (start_point _ _ _ (order_names _ c.requires.order) c.in-Some.ensures))
+    (start_behind c.args.names.now _ c.in-Some.start (order_names _ c.requires.order) c.in-Some.ensures)
 
 pub returns-in-Some-clause-named : goal.returns-in-Some-clause-named
 returns-in-Some-clause-named c =
     let behind = c.skip-behind.ensures in
     rw (c.take-names.ensures, behind)
-    (run_is c.args.names.now _ c.in-Some.start c.run_length.result (omega (arith, c.in-Some.ensures.within))
-    (rw behind at c.run_length.ensures.bound) (start_point _ _ _ (order_names _ c.requires.order) c.in-Some.ensures)
-    (rw behind at c.run_length.ensures.point))
+    (run_is c.args.names.now _ c.in-Some.start (order_names _ c.requires.order) c.in-Some.ensures c.run_length.result
+    (rw behind at c.run_length.ensures.bound) (rw behind at c.run_length.ensures.point))
 
 pub returns-in-None-clause-named : goal.returns-in-None-clause-named
-returns-in-None-clause-named c = grind (arith, common_steps, none_is)
+returns-in-None-clause-named c = grind (arith, named_at, none_in)
 
 pub returns-in-Some-clause-files : goal.returns-in-Some-clause-files
 returns-in-Some-clause-files c =

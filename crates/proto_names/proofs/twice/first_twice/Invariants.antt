@@ -1,6 +1,6 @@
 use Rattle.std.proofs.Common.{◌-◌, ◌<◌}
 use Rattle.proto_names.specs.Runs.{IsRun}
-use Rattle.proto_names.proofs.Repeating.{Passed}
+use Rattle.proto_names.proofs.Once.{Passed}
 use Rattle.proto_names.proofs.twice.first_twice.Given as goal
 
 abbrev pub invariant-loop-position : goal.invariant-loop-position

@@ -1,6 +1,5 @@
 use Rattle.std.proofs.Common.{arith}
-use Rattle.std.proofs.lemmas.Grind.{common_steps}
-use Rattle.proto_names.proofs.Repeating.{run_longer, run_new}
+use Rattle.proto_names.proofs.Once.{run_longer, run_new}
 use Rattle.proto_names.proofs.twice.run_at.Goals as goal
 
 pub returns-then-continues : goal.returns-then-continues
@@ -10,4 +9,4 @@ returns-then-continues c =
     c.run_with.ensures
 
 pub returns-else-continues : goal.returns-else-continues
-returns-else-continues c = grind (arith, common_steps, run_new)
+returns-else-continues c = grind (arith, run_new)

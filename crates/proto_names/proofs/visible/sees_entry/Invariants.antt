@@ -1,8 +1,10 @@
-use Rattle.std.proofs.Common.{ℕ, ◌<◌}
+use Rattle.std.proofs.Common.{ℕ, ◌<◌, IsTrue}
 use Rattle.proto_names.specs.Resolution.{SeenBy}
+use Rattle.proto_names.specs.Runs.{at}
 use Rattle.proto_names.specs.Steps.{fits}
-use Rattle.proto_names.proofs.Looking.{IsNotAt}
 use Rattle.proto_names.proofs.visible.sees_entry.Given as goal
 
+-- none before the position is of such a kind in a file that is seen
 abbrev pub invariant-loop-position : goal.invariant-loop-position
-invariant-loop-position l = (k : ℕ) → k < l.position → IsNotAt (fits l.role) (SeenBy l.links l.file) l.names k
+invariant-loop-position l = (k : ℕ) → k < l.position → IsTrue (fits l.role (at l.names k).kind)
+    → SeenBy l.links l.file (at l.names k).file → ⊥

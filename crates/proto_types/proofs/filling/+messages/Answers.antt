@@ -10,7 +10,7 @@ use Rattle.proto_types.proofs.filling.+messages.Goals as goal
 pub fill_message-returns : goal.fill_message-returns
 fill_message-returns t c =
     let m = c.args.message.now in
-    let fields = c.fill_fields.new.fields in
+    let fields = c.fill_row.new.row in
     let nested = c.fill_messages.new.messages in
     let with_fields = roll-MessageDesc (record (out-MessageDesc m) { fields = fields }) in
     let filled = record (out-MessageDesc with_fields) { nested = nested } in
@@ -18,7 +18,7 @@ fill_message-returns t c =
     record {
       puts = λ os seen scope.
           rw (references_out m scope) (λ types rest all is.
-          let put = puts_both _ _ _ _ (c.fill_fields.ensures.puts os seen (field_scope scope (out-MessageDesc m)))
+          let put = puts_both _ _ _ _ (c.fill_row.ensures.puts os seen (field_scope scope (out-MessageDesc m)))
           (inside.puts os seen (scope_in m scope)) types rest all is in (
             put.0,
             remade_typed os (IsSeen seen) scope m filled fields nested (simp out-roll-MessageDesc)

@@ -8,7 +8,7 @@ pub returns : goal.returns
 returns c = record {
   puts = λ os seen scope types rest all is.
       let put = puts_both _ _ _ _ (c.fill_messages.ensures.puts os seen scope)
-      (c.fill_services.ensures.puts os seen scope) types rest all is in
+      (c.fill_row.ensures.puts os seen scope) types rest all is in
       let filled = c.fill_messages.new.messages in
       let messages = messages_typed os (IsSeen seen) scope c.args.file.now.messages filled put.1.0 in
       (put.0, record { messages_typed = messages; services_typed = put.1.1; same = refl });

@@ -1,5 +1,4 @@
-use Rattle.std.proofs.Common.{◌∙◌, [], sym}
-use Rattle.std.proofs.lemmas.List.{append-nil}
+use Rattle.std.proofs.Common.{◌∙◌, [], sym, append-nil}
 use Rattle.proto_desc.specs.DeclaredNames.{file_scope}
 use Rattle.proto_names.specs.SeenAlike.{IsSeen}
 use Rattle.proto_types.proofs.Trees.{typed_resolved}

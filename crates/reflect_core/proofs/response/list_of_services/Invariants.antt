@@ -1,5 +1,4 @@
-use Rattle.std.proofs.Common.{◌≡◌, take}
-use Rattle.std.specs.Prelude.{string_bytes, map, flat_map}
+use Rattle.std.proofs.Common.{◌≡◌, take, string_bytes, map, flat_map}
 use Rattle.wire_format.specs.Field.{bytes_field}
 use Rattle.reflect_core.proofs.response.list_of_services.Given as goal
 

@@ -1,5 +1,4 @@
-use Rattle.std.proofs.Common.{◌≡◌, map, take}
-use Rattle.std.specs.Prelude.{flat_map}
+use Rattle.std.proofs.Common.{◌≡◌, map, take, flat_map}
 use Rattle.reflect_core.specs.Response.{replies_to}
 use Rattle.reflect_core.specs.ResponseSteps.{asked_of, files_of}
 use Rattle.reflect_requests.specs.Frames.{frame}

@@ -1,8 +1,7 @@
-use Rattle.std.proofs.Common.{List, ℕ, map-id, subst, sym, ◌∙◌}
+use Rattle.std.proofs.Common.{List, ℕ, map-id, subst, sym, ◌∙◌, flat_map}
 use Rattle.std.proofs.lemmas.Iterator.{YieldsList-from_chars}
 use Rattle.std.proofs.lemmas.Iterator.Consumers.{YieldsList-end}
 use Rattle.std.specs.Fmt.{HasWritten}
-use Rattle.std.specs.List.{flat_map}
 use Rattle.schema_failure.specs.Lines.{shown_char}
 use Rattle.schema_failure.proofs.shown.write_shown.Goals as goal
 

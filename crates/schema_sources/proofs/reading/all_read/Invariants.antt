@@ -1,5 +1,4 @@
-use Rattle.std.proofs.Common.{◌≡◌, map}
-use Rattle.std.specs.Prelude.{Ok}
+use Rattle.std.proofs.Common.{◌≡◌, map, Ok}
 use Rattle.schema_sources.proofs.reading.all_read.Given as goal
 
 abbrev pub invariant-loop-outcome : goal.invariant-loop-outcome

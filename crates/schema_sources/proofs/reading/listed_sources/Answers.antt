@@ -1,5 +1,4 @@
-use Rattle.std.proofs.Common.{◌≡◌, Global, List, String, Vec, map, subst, sym}
-use Rattle.std.specs.Prelude.{Ok}
+use Rattle.std.proofs.Common.{◌≡◌, Global, List, String, Vec, map, subst, sym, Ok}
 use Rattle.std.proofs.lemmas.Result.{IfOk-weaker}
 use Rattle.proto_base.specs.NameOrder.{NamesRise}
 use Rattle.share_work.specs.Shares.{GivesItems}

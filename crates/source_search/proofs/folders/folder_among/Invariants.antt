@@ -1,5 +1,4 @@
-use Rattle.std.proofs.Common.{◌≡◌, drop, map}
-use Rattle.std.specs.Prelude.{IfSome, find}
+use Rattle.std.proofs.Common.{◌≡◌, drop, map, IfSome, find}
 use Rattle.source_search.specs.Folders.{has_text}
 use Rattle.source_search.proofs.folders.folder_among.Given as goal
 

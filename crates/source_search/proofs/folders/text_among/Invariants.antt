@@ -1,5 +1,4 @@
-use Rattle.std.proofs.Common.{◌≡◌, drop, map}
-use Rattle.std.specs.Prelude.{IfSome}
+use Rattle.std.proofs.Common.{◌≡◌, drop, map, IfSome}
 use Rattle.source_search.specs.Folders.{first_in}
 use Rattle.source_search.proofs.folders.text_among.Given as goal
 

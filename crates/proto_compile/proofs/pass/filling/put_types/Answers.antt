@@ -1,10 +1,6 @@
-use Rattle.std.proofs.Common.{Global, Vec, ◌≡◌, ◌∙◌, ℕ, ◌+◌, ◌<◌, ◌++◌, List, Some, ap, drop, get_or, length, map, sym, take, arith}
-use Rattle.std.specs.Prelude.{slice_get}
-use Rattle.std.specs.Option.{option_map}
-use Rattle.std.proofs.lemmas.List.{append-nil, drop_all, length-map, take_all}
-use Rattle.std.proofs.lemmas.Option.{get_or_from_slice_get, slice_get-map, slice_get_within}
+use Rattle.std.proofs.Common.{Global, Vec, ◌≡◌, ◌∙◌, ℕ, suc, ◌+◌, ◌<◌, ◌++◌, List, [], ◌∷◌, ap, drop, get_or, length, map, sym, take, arith, append-nil, take_all}
+use Rattle.std.proofs.lemmas.List.{drop_all}
 use Rattle.std.proofs.lemmas.Result.{IfOk-weaker}
-use Rattle.share_work.specs.Shares.{GivesItems}
 use Rattle.proto_desc.specs.declared.file.FileDesc.{FileDesc}
 use Rattle.proto_types.specs.declared.meaning.NamedType.{NamedType}
 use Rattle.proto_compile.specs.Analysed.{AllZipFrom}
@@ -12,7 +8,6 @@ use Rattle.proto_compile.specs.Outcomes.{AreTypesOf, IsTypedWhole}
 use Rattle.proto_compile.specs.declared.pass.filling.Untyped.{Untyped}
 use Rattle.proto_compile.proofs.pass.filling.put_types.Goals as goal
 use Rattle.share_work.proofs.Giving.{gives_each}
-use Rattle.proto_names.proofs.Tabled.{of_map}
 
 abbrev desc_in : Untyped → FileDesc
 desc_in f = f.desc
@@ -20,34 +15,19 @@ desc_in f = f.desc
 abbrev types_in : Untyped → Vec NamedType Global
 types_in f = f.types
 
-module _ (P : ℕ → FileDesc → Vec NamedType Global → Type 0) (Q : ℕ → FileDesc → FileDesc → Type 0)
-    (old new : List Untyped)
-    (each : (i : ℕ) (d : Untyped) → i < length old → (a : ℕ) → P a (get_or old i d).desc (get_or old i d).types
-    → Q a (get_or old i d).desc (get_or new i d).desc) where
-  -- a descriptor at its position, filled with the types that are given for it
-  filled_at : (i : ℕ) (t o : FileDesc) (descs typed : List FileDesc) (types : List (Vec NamedType Global))
-      → map desc_in old ≡ descs → map types_in old ≡ types → typed ≡ map desc_in new → GivesItems P 0 descs types
-      → slice_get descs i ≡ Some t → slice_get typed i ≡ Some o → Q (0 + i) t o
-  filled_at i t o descs typed types is own are gives item out =
-      let from = of_map desc_in old i t (rw is item) in
-      let to = of_map desc_in new i o (rw are at out) in
-      let f = from.0 in
-      let before : get_or old i f ≡ f = get_or_from_slice_get old i f f from.1 in
-      let after : get_or new i f ≡ to.0 = get_or_from_slice_get new i to.0 f to.1 in
-      let given : slice_get types i ≡ Some f.types =
-      ap (λ (l : List _). slice_get l i) (sym own) ∙ slice_get-map types_in old i ∙ ap (option_map types_in) from.1 in
-      let ready : P (0 + i) f.desc f.types = rw from.2 (gives.1 i t f.types item given) in
-      let filled = each i f (slice_get_within old i f from.1) (0 + i) (rw before ready) in
-      rw (← from.2, ← to.2) (rw (before, after) at filled)
-
-  filled_all : (descs typed : List FileDesc) (types : List (Vec NamedType Global)) → length new ≡ length old
-      → map desc_in old ≡ descs → map types_in old ≡ types → typed ≡ map desc_in new → GivesItems P 0 descs types
-      → AllZipFrom Q 0 descs typed
-  filled_all descs typed types size is own are gives =
-      gives_each Q (AllZipFrom Q) (λ a. tt) (λ a x y xs ys here rest. (here, rest)) 0 descs typed (
-        ap length are ∙ length-map new desc_in ∙ size ∙ sym (length-map old desc_in) ∙ ap length is,
-        λ i t o item out. filled_at i t o descs typed types is own are gives item out,
-      )
+-- descriptors at their positions, filled with the types that are given for them
+filled : (P : ℕ → FileDesc → Vec NamedType Global → Type 0) (Q : ℕ → FileDesc → FileDesc → Type 0) (a : ℕ)
+    (old new : List Untyped) → length new ≡ length old
+    → ((i : ℕ) (d : Untyped) → i < length old → (b : ℕ) → P b (get_or old i d).desc (get_or old i d).types
+    → Q b (get_or old i d).desc (get_or new i d).desc) → AllZipFrom P a (map desc_in old) (map types_in old)
+    → AllZipFrom Q a (map desc_in old) (map desc_in new)
+filled P Q a [] [] size each all = tt
+filled P Q a [] (n ∷ new) size each all = absurd (omega (arith, size))
+filled P Q a (o ∷ old) [] size each all = absurd (omega (arith, size))
+filled P Q a (o ∷ old) (n ∷ new) size each all = (
+  each 0 o (omega arith) a all.0,
+  filled P Q (a + 1) old new (omega (arith, size)) (λ i d h. each (suc i) d (omega (arith, h))) all.1,
+)
 
 -- what a slice of all items of a vector leaves there
 written : {X : Type 0} (n : ℕ) (old new : List X) → length new ≡ n → length old ≡ length new
@@ -64,7 +44,10 @@ returns g c = IfOk-weaker c.descriptors.result _ _ (λ typed are links index giv
     let all = written c.in_ok-files.files.len old new (c.fill_all.ensures.size ∙ c.as_mut_slice.ensures.len)
     (sym size) in
     let each = c.fill_all.ensures.each in
-    filled_all (AreTypesOf links index) (IsTypedWhole links index) old new
+    let P = AreTypesOf links index in
+    let given = gives_each P (AllZipFrom P) (λ a. tt) (λ a x y xs ys here rest. (here, rest)) 0 c.args.descs.items
+    c.args.types.items gives in
+    let typed_are : typed.items ≡ map desc_in new = are ∙ ap (map desc_in) all in
+    rw (← files.0, typed_are) (filled P (IsTypedWhole links index) 0 old new size
     (λ i d h a w. rw is at (each i d (rw (sym is) at h) links index a (rw (sym is) at w)))
-    c.args.descs.items typed.items
-    c.args.types.items size files.0 files.1 (are ∙ ap (map desc_in) all) gives) c.descriptors.ensures
+    (rw (files.0, files.1) given))) c.descriptors.ensures

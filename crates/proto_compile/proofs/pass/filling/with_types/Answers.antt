@@ -1,11 +1,7 @@
-use Rattle.std.proofs.Common.{◌≡◌, ◌⊎◌, ◌+◌, ◌++◌, List, arith, length, map}
-use Rattle.std.proofs.lemmas.List.{length-append, length-map}
+use Rattle.std.proofs.Common.{◌≡◌, ◌⊎◌, ◌++◌, List, arith, length, map, length-append}
+use Rattle.std.proofs.lemmas.List.{length-map}
 use Rattle.proto_names.proofs.Tabled.{all_taken}
 use Rattle.proto_compile.proofs.pass.filling.with_types.Goals as goal
-
-sizes : {F X : Type 0} (f : F → X) (files : List F) (rest xs : List X) → map f files ++ rest ≡ xs
-    → length files + length rest ≡ length xs
-sizes f files rest xs e = grind (arith, length-map, length-append)
 
 -- two lists of one length end together
 both_ended : {F X Y : Type 0} (f : F → X) (g : F → Y) (files : List F) (xs lefts : List X) (ys rights : List Y)
@@ -13,8 +9,8 @@ both_ended : {F X Y : Type 0} (f : F → X) (g : F → Y) (files : List F) (xs l
     → (length lefts ≡ 0) ⊎ (length rights ≡ 0) → (map f files ≡ xs) × (map g files ≡ ys)
 both_ended f g files xs lefts ys rights left right same end = grind (
   arith,
-  sizes f files lefts xs left,
-  sizes g files rights ys right,
+  length-map,
+  length-append,
   all_taken (map f files) lefts xs left,
   all_taken (map g files) rights ys right,
 )

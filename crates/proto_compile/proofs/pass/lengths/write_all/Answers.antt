@@ -1,7 +1,4 @@
-use Rattle.std.proofs.Common.{◌≡◌, ◌∙◌, sym, ap, refl, ℕ, List, [], ◌∷◌, map, All}
-use Rattle.std.specs.List.{AllZip}
-use Rattle.std.specs.Prelude.{Ok, Vec}
-use Rattle.std.specs.declared.alloc.Global.{Global}
+use Rattle.std.proofs.Common.{◌≡◌, ◌∙◌, sym, refl, ℕ, List, map, All, Ok, Vec, Global}
 use Rattle.std.proofs.lemmas.List.Elements.{All-cons, All-nil}
 use Rattle.std.proofs.lemmas.Result.{IfOk-weaker}
 use Rattle.proto_base.specs.declared.limits.Limits.{Limits}
@@ -11,22 +8,19 @@ use Rattle.proto_compile.specs.Compilation.{IsShort}
 use Rattle.proto_compile.specs.FaultSet.{IsLeastFault}
 use Rattle.proto_compile.specs.Outcomes.{IsFirstFound, IsWrittenShort}
 use Rattle.proto_compile.specs.Steps.{items_of}
-use Rattle.share_work.proofs.Giving.{all_of_gives, gives_well}
-use Rattle.proto_compile.proofs.Judging.{err_tells}
-use Rattle.proto_compile.proofs.LeastFault.{first_long}
+use Rattle.share_work.specs.Shares.{GivesItems}
+use Rattle.share_work.proofs.Giving.{gives_each, gives_well}
+use Rattle.proto_compile.proofs.LeastFault.{err_tells, first_long}
 use Rattle.proto_compile.proofs.pass.lengths.write_all.Goals as goal
 
 -- where no descriptor is too long
-all_written : (limits : Limits) (descs : List FileDesc) (all : List (Vec ℕ Global))
-    → AllZip (λ d bytes. IsWrittenShort limits d (Ok bytes)) descs all
+all_written : (limits : Limits) (a : ℕ) (descs : List FileDesc) (all : List (Vec ℕ Global))
+    → GivesItems (λ k d bytes. IsWrittenShort limits d (Ok bytes)) a descs all
     → (map items_of all ≡ map file_desc_bytes descs) × All (IsShort limits) descs
-all_written limits [] [] is = (refl, All-nil (IsShort limits))
-all_written limits (d ∷ descs) (b ∷ all) is =
-    let rest = all_written limits descs all is.1 in (
-      ap (λ (n : List ℕ). n ∷ map items_of all) is.0.0 ∙ ap (λ (ns : List (List ℕ)). file_desc_bytes d ∷ ns) rest.0,
-      All-cons (IsShort limits) d descs is.0.1 rest.1,
-    )
-all_written limits descs all is = absurd is
+all_written limits = gives_each (λ k d bytes. IsWrittenShort limits d (Ok bytes))
+    (λ k descs all. (map items_of all ≡ map file_desc_bytes descs) × All (IsShort limits) descs)
+    (λ a. (refl, All-nil (IsShort limits)))
+    (λ a d b descs all here rest. (cc (here.0, rest.0), All-cons (IsShort limits) d descs here.1 rest.1))
 
 pub judge-requires : goal.judge-requires
 judge-requires g c = c.requires.files ∙ sym (rw c.as_slice.ensures.value at c.in_ok-outcomes.ensures.0)
@@ -39,8 +33,7 @@ returns g c =
     let outcomes = c.in_ok-outcomes.outcomes.items in
     let given = rw c.as_slice.ensures.value at c.in_ok-outcomes.ensures in
     let written = λ (all : Vec (Vec ℕ Global) Global) (is : outcomes ≡ map Ok all.items).
-    all_written limits descs all.items (all_of_gives (λ d bytes. IsWrittenShort limits d (Ok bytes)) 0 descs all.items
-    (gives_well (λ k. IsWrittenShort limits) descs all.items outcomes is given)) in
+    all_written limits 0 descs all.items (gives_well (λ k. IsWrittenShort limits) descs all.items outcomes is given) in
     let well = λ (all : Vec (Vec ℕ Global) Global). outcomes ≡ map Ok all.items in
     record {
       bytes = IfOk-weaker c.judge.result well (λ all. map items_of all.items ≡ map file_desc_bytes descs)

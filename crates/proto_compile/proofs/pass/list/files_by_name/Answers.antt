@@ -1,6 +1,5 @@
 use Rattle.std.proofs.Common.{arith}
-use Rattle.proto_compile.proofs.Judging.{told}
-use Rattle.proto_compile.proofs.LeastFault.{many_least, repeated_least}
+use Rattle.proto_compile.proofs.LeastFault.{told, many_least, repeated_least}
 use Rattle.proto_compile.proofs.Sorting.{strictly, name_is}
 use Rattle.proto_compile.proofs.pass.list.files_by_name.Goals as goal
 

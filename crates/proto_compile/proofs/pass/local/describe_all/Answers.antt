@@ -1,15 +1,12 @@
-use Rattle.std.proofs.Common.{◌≡◌, sym, map}
+use Rattle.std.proofs.Common.{◌≡◌, sym, map, Ok, Vec, Global}
 use Rattle.std.specs.List.{AllZip}
-use Rattle.std.specs.Prelude.{Ok, Vec}
-use Rattle.std.specs.declared.alloc.Global.{Global}
 use Rattle.std.proofs.lemmas.Result.{IfOk-weaker}
 use Rattle.proto_desc.specs.declared.file.FileDesc.{FileDesc}
 use Rattle.proto_compile.specs.Descriptions.{SourceDescribes}
 use Rattle.proto_compile.specs.FaultSet.{IsLeastFault}
 use Rattle.proto_compile.specs.Outcomes.{IsDescribed, IsFirstFound}
 use Rattle.share_work.proofs.Giving.{all_of_gives, gives_well}
-use Rattle.proto_compile.proofs.Judging.{err_tells}
-use Rattle.proto_compile.proofs.LeastFault.{first_local}
+use Rattle.proto_compile.proofs.LeastFault.{err_tells, first_local}
 use Rattle.proto_compile.proofs.pass.local.describe_all.Goals as goal
 
 pub judge-requires : goal.judge-requires

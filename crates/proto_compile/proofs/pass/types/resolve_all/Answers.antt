@@ -1,4 +1,4 @@
-use Rattle.std.proofs.Common.{◌≡◌, ℕ, ◌+◌, List, [], ◌∷◌, All, rules, true}
+use Rattle.std.proofs.Common.{arith, ◌≡◌, ℕ, ◌+◌, List, [], ◌∷◌, All, rules, true}
 use Rattle.std.proofs.lemmas.List.Elements.{All-cons, All-nil}
 use Rattle.proto_desc.specs.Resolved.{file_resolved}
 use Rattle.proto_desc.specs.declared.file.FileDesc.{FileDesc}
@@ -8,8 +8,7 @@ use Rattle.proto_compile.specs.Analysed.{AllZipFrom, AreTypedFrom}
 use Rattle.proto_compile.specs.FaultSet.{IsLeastFault}
 use Rattle.proto_compile.specs.Outcomes.{IsFirstFound, IsResolved, IsTypedWhole}
 use Rattle.share_work.proofs.Giving.{gives_well}
-use Rattle.proto_compile.proofs.Judging.{tells_more}
-use Rattle.proto_compile.proofs.LeastFault.{first_break}
+use Rattle.proto_compile.proofs.LeastFault.{tells_more, first_break}
 use Rattle.proto_compile.proofs.pass.types.resolve_all.Goals as goal
 
 -- descriptors with their types, all of them resolved
@@ -18,8 +17,7 @@ all_typed : (links : Linked) (index : Index) (a : ℕ) (descs typed : List FileD
     → AreTypedFrom links index a descs typed × All (λ desc. file_resolved desc ≡ true) typed
 all_typed links index a [] [] all = (tt, All-nil (λ desc. file_resolved desc ≡ true))
 all_typed links index a (f ∷ fs) (g ∷ gs) all =
-    let rest = all_typed links index (a + 1) fs gs all.1 in
-    ((all.0.0, rest.0), All-cons (λ desc. file_resolved desc ≡ true) g gs all.0.1 rest.1)
+    grind (arith, All-cons (λ desc. file_resolved desc ≡ true) g gs, all_typed links index (a + 1) fs gs all.1)
 all_typed links index a descs typed all = absurd all
 
 pub returns-in_err-types-clause-first : goal.returns-in_err-types-clause-first

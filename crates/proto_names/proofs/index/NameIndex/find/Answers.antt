@@ -1,35 +1,38 @@
-use Rattle.std.proofs.Common.{◌∙◌, sym, ap, arith, subst}
-use Rattle.std.specs.Prelude.{Contains, Some}
+use Rattle.std.proofs.Common.{◌∙◌, sym, ap, arith, subst, Contains, Some}
+use Rattle.std.proofs.lemmas.List.{get_or_default}
+use Rattle.std.proofs.lemmas.List.Elements.{Contains-get_or}
+use Rattle.std.proofs.lemmas.Option.{same_Some}
 use Rattle.proto_names.specs.Index.{Index}
-use Rattle.proto_names.specs.Runs.{at}
+use Rattle.proto_names.specs.Runs.{at, blank}
 use Rattle.proto_names.specs.declared.entry.Location.{Location}
-use Rattle.proto_names.proofs.Occurring.{occurs, all_packages, defined_is}
+use Rattle.proto_names.specs.declared.index.Defined.{Defined}
 use Rattle.proto_names.proofs.index.NameIndex.find.Goals as goal
 
 pub returns-in-Some-clause-found : goal.returns-in-Some-clause-found
 returns-in-Some-clause-found c d e =
     let named = c.named.result.names in
     let o = at named c.loop-position.position in
-    let w = c.named.ensures.found o (occurs named c.loop-position.position (omega arith)) in
-    let same = defined_is d c.in-Some.kind c.location-file.result.file e in (
+    let w = c.named.ensures.found o (Contains-get_or named c.loop-position.position blank (omega arith)) in
+    let same = same_Some _ d e in (
       o,
       subst (λ (index : Index). Contains index.occurrences o) c.self.view_is w.0,
       rw c.top.ensures at w.1,
-      sym c.kind.ensures ∙ c.in-Some.is ∙ ap Some same.0,
-      ap (λ (s : Location). s.file) (sym c.location-file.ensures) ∙ same.1,
+      sym c.kind.ensures ∙ c.in-Some.is ∙ ap (λ (d : Defined). Some d.kind) same,
+      ap (λ (s : Location). s.file) (sym c.location-file.ensures) ∙ ap (λ (d : Defined). d.file) same,
     )
 
 pub returns-clause-none : goal.returns-clause-none
 returns-clause-none c e o within name =
-    all_packages c.named.result.names c.loop-position.position (omega arith) c.loop-position.invariant o
-    (c.named.ensures.all o (subst (λ (index : Index). Contains index.occurrences o) (sym c.self.view_is) within)
-    (rw c.top.ensures name))
+    let named = c.named.result.names in
+    let (k, inside, is) = c.named.ensures.all o
+    (subst (λ (index : Index). Contains index.occurrences o) (sym c.self.view_is) within) (rw c.top.ensures name) in
+    rw (get_or_default named k blank o inside ∙ is) at (c.loop-position.invariant k (omega (arith, inside)) inside)
 
 pub returns-in-Some-clause-within : goal.returns-in-Some-clause-within
 returns-in-Some-clause-within c =
     let named = c.named.result.names in
     let o = at named c.loop-position.position in
-    let w = c.named.ensures.found o (occurs named c.loop-position.position (omega arith)) in
+    let w = c.named.ensures.found o (Contains-get_or named c.loop-position.position blank (omega arith)) in
     let inside = c.self.invariant.0.inside o w.0 in
     let file = ap (λ (s : Location). s.file) c.location-file.ensures in
     let files = ap (λ (index : Index). index.files) c.self.view_is in

@@ -1,6 +1,5 @@
 use Rattle.proto_names.specs.Resolution.{SeenBy}
-use Rattle.proto_names.proofs.Looking.{no_type}
-use Rattle.proto_names.proofs.Meaning.{means_nothing, only_innermost}
+use Rattle.proto_names.proofs.Unique.{means_nothing, no_type, only_innermost}
 use Rattle.proto_names.proofs.index.NameIndex.find_relative.Goals as goal
 
 pub returns-in_err-inner : goal.returns-in_err-inner

@@ -1,5 +1,5 @@
 use Rattle.std.proofs.Common.{inl, inr}
-use Rattle.proto_names.proofs.Around.{candidate_trans}
+use Rattle.proto_names.proofs.Unique.{candidate_trans}
 use Rattle.proto_names.proofs.index.NameIndex.innermost.Goals as goal
 
 pub loop-decision-preserved : goal.loop-decision-preserved

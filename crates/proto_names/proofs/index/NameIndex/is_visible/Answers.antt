@@ -4,7 +4,7 @@ use Rattle.proto_desc.specs.DeclaredNames.{scoped}
 use Rattle.proto_names.specs.Index.{Index}
 use Rattle.proto_names.specs.Resolution.{SeenBy}
 use Rattle.proto_names.specs.Steps.{fits}
-use Rattle.proto_names.proofs.Looking.{among_visible, visible_among}
+use Rattle.proto_names.proofs.Unique.{among_visible, visible_among}
 use Rattle.proto_names.proofs.index.NameIndex.is_visible.Goals as goal
 
 pub sees_one-requires-clause-entries : goal.sees_one-requires-clause-entries

@@ -3,7 +3,7 @@ use Rattle.std.proofs.lemmas.List.Elements.{Contains-get_or}
 use Rattle.proto_desc.specs.DeclaredNames.{scoped}
 use Rattle.proto_names.specs.Index.{Index}
 use Rattle.proto_names.specs.Resolution.{SeenBy}
-use Rattle.proto_names.proofs.Looking.{type_visible}
+use Rattle.proto_names.proofs.Unique.{type_visible}
 use Rattle.proto_names.proofs.index.NameIndex.type_of.Goals as goal
 
 pub type_among-requires-clause-entries : goal.type_among-requires-clause-entries
@@ -15,4 +15,5 @@ type_among-requires-clause-entries c k d below =
 pub returns : goal.returns
 returns c = rw (ap (λ (index : Index). index.occurrences) c.self.view_is)
     at (type_visible c.self.inside.entries (SeenBy c.args.links.now c.args.file)
-    (scoped c.args.scope.text.now c.args.name.now) _ c.scopes_named.ensures.found c.scopes_named.ensures.scopes _ c.type_among.ensures)
+    (scoped c.args.scope.text.now c.args.name.now) _ c.scopes_named.ensures.found c.scopes_named.ensures.scopes _
+    c.type_among.ensures)

@@ -1,9 +1,8 @@
-use Rattle.std.proofs.Common.{◌≡◌, ◌∙◌, ◌++◌, ap, drop, length, take}
-use Rattle.std.specs.Prelude.{IsPermutation}
+use Rattle.std.proofs.Common.{◌≡◌, ◌∙◌, ◌++◌, ap, drop, length, take, IsPermutation}
 use Rattle.std.proofs.lemmas.List.Sorted.{All-permutation, IsPermutation-map}
 use Rattle.digraph.proofs.Rows.{written}
 use Rattle.proto_names.specs.Keys.{AreKeysAmong, IsKeyAmong, at_key}
-use Rattle.proto_names.proofs.Keying.{sorted_found}
+use Rattle.proto_names.proofs.Searching.{sorted_found}
 use Rattle.proto_names.proofs.keyed_entries.KeyedEntries.sorted.Goals as goal
 
 moved : (c : goal.In_ok-sort_keys) → IsPermutation c.self.inside.keys.items c.sort_keys.new.keys

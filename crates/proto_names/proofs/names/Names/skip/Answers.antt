@@ -1,5 +1,4 @@
 use Rattle.std.proofs.Common.{arith}
-use Rattle.std.proofs.lemmas.Grind.{common_steps}
 use Rattle.std.proofs.lemmas.List.{drop-map, take_rest}
 use Rattle.std.proofs.lemmas.List.Elements.{All-drop}
 use Rattle.proto_names.specs.Keys.{IsKeyAmong}
@@ -10,4 +9,4 @@ invariant_of-result c = rw (take_rest c.self.inside.keys.now c.args.count)
     (All-drop (IsKeyAmong c.self.inside.collected.now) _ _ c.self.invariant)
 
 pub returns : goal.returns
-returns c = grind (arith, common_steps, drop-map, take_rest)
+returns c = grind (arith, drop-map, take_rest)

@@ -1,5 +1,4 @@
 use Rattle.std.proofs.Common.{arith}
-use Rattle.std.proofs.lemmas.Grind.{common_steps}
 use Rattle.std.proofs.lemmas.List.{take-map}
 use Rattle.std.proofs.lemmas.List.Elements.{All-take}
 use Rattle.proto_names.specs.Keys.{IsKeyAmong}
@@ -9,4 +8,4 @@ pub invariant_of-result : goal.invariant_of-result
 invariant_of-result c = All-take (IsKeyAmong c.self.inside.collected.now) _ _ c.self.invariant
 
 pub returns : goal.returns
-returns c = grind (arith, common_steps, take-map)
+returns c = grind (arith, take-map)

@@ -1,9 +1,9 @@
-use Rattle.std.proofs.Common.{◌∙◌, sym, ap, rules}
-use Rattle.std.specs.Ordering.{nat_cmp}
+use Rattle.std.proofs.Common.{◌≡◌, ◌∙◌, sym, ap, rules, nat_cmp}
 use Rattle.std.proofs.lemmas.Fn.{always_returns_same}
 use Rattle.std.proofs.lemmas.List.{get_or_default}
+use Rattle.std.proofs.lemmas.Map.Lookups.{exact_unsigned}
 use Rattle.proto_names.specs.declared.packages.Run.{Run}
-use Rattle.proto_names.proofs.Packing.{package_found}
+use Rattle.proto_names.specs.Packages.{run_at}
 use Rattle.proto_names.proofs.packages.Packages.files_of.Goals as goal
 
 pub returns-in-Ok : goal.returns-in-Ok
@@ -16,6 +16,7 @@ returns-in-Ok c os are =
     let inside = rw c.deref.ensures.value at c.in-Ok.ensures.bound in
     let first : Run = record { start = 0; len = 0 } in
     let at = c.index.ensures ∙ get_or_default runs row c.index.result.now first inside in
-    package_found os runs c.args.self.now.files row c.args.start c.args.len inside
-    (rw c.deref.ensures.value at (found first))
-    (sym (ap (λ (run : Run). run.len) at) ∙ c.if-index-len.true) are
+    let start : (run_at runs row).start ≡ c.args.start =
+    exact_unsigned _ _ (rw c.deref.ensures.value at (found first)) in
+    let len : (run_at runs row).len ≡ c.args.len = sym (ap (λ (run : Run). run.len) at) ∙ c.if-index-len.true in
+    rw (start, len) at (are.each row inside)

@@ -1,7 +1,6 @@
-use Rattle.std.proofs.Common.{◌∙◌, ◌<◌, ap, sym, arith, length}
-use Rattle.std.proofs.lemmas.Bool.{true≢false}
+use Rattle.std.proofs.Common.{◌∙◌, ◌<◌, ap, sym, arith, length, true≢false}
 use Rattle.proto_names.specs.Resolution.{is_scope}
-use Rattle.proto_names.proofs.TellingScopes.{tells_kept, tells_more}
+use Rattle.proto_names.proofs.Starting.{tells_next, tells_set}
 use Rattle.proto_names.proofs.scope_hashes.ScopeHashes.among.Goals as goal
 use Rattle.proto_names.proofs.scope_hashes.ScopeHashes.among.Goals.{then-fits, else-fits}
 
@@ -17,13 +16,13 @@ loop-position-preserved c =
           rw w.bits-is (
             rw put.large.rows row,
             rw put.large.width room,
-            tells_more os k _ _ _ inside (omega arith) room put told,
+            tells_set os k _ _ _ inside (omega arith) room put told,
           )
       | else-fits w ↦
           rw w.bits-is (
             row,
             room,
-            tells_kept os k _ c.loop-position.bits inside
-                (λ is. true≢false (sym is ∙ ap is_scope (sym c.kind.ensures) ∙ sym c.fits.ensures ∙ w.if-fits.false)) told,
+            tells_next os k _ c.loop-position.bits c.loop-position.bits inside (λ name is. is) (λ is. absurd (true≢false
+                (sym is ∙ ap is_scope (sym c.kind.ensures) ∙ sym c.fits.ensures ∙ w.if-fits.false))) told,
           )
     ]

@@ -1,6 +1,8 @@
+use Rattle.std.proofs.Common.{◌≢◌, ℕ, ◌<◌}
 use Rattle.proto_desc.specs.DeclaredNames.{scoped}
-use Rattle.proto_names.proofs.Starting.{NoneBefore}
+use Rattle.proto_names.specs.Runs.{at}
 use Rattle.proto_names.proofs.starts.Starts.start_of.Given as goal
 
+-- none of those before the position has the name
 abbrev pub invariant-loop-position : goal.invariant-loop-position
-invariant-loop-position l = NoneBefore l.names (scoped l.scope.text.now l.name) l.position
+invariant-loop-position l = (k : ℕ) → k < l.position → (at l.names k).name ≢ scoped l.scope.text.now l.name

@@ -1,5 +1,4 @@
-use Rattle.std.proofs.Common.{arith}
-use Rattle.std.proofs.lemmas.List.{take_all}
+use Rattle.std.proofs.Common.{arith, take_all}
 use Rattle.proto_types.proofs.finder.Finder.messages.Goals as goal
 
 pub returns : goal.returns

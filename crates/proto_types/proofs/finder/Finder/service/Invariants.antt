@@ -1,5 +1,4 @@
-use Rattle.std.proofs.Common.{take}
-use Rattle.std.specs.Prelude.{flat_map}
+use Rattle.std.proofs.Common.{take, flat_map}
 use Rattle.proto_names.specs.Resolution.{SeenBy}
 use Rattle.proto_types.specs.Recalling.{AreRecalled}
 use Rattle.proto_types.specs.References.{references_of_method}

@@ -1,6 +1,5 @@
 use Rattle.schema_commands.proofs.Telling.{handed_on}
-use Rattle.std.proofs.Common.{◌++◌, [], ap, arith, length, length-append}
-use Rattle.std.specs.Prelude.{Err, Ok}
+use Rattle.std.proofs.Common.{◌++◌, [], ap, arith, length, length-append, Err, Ok}
 use Rattle.wire_format.proofs.Varints.{varint_short}
 use Rattle.wire_format.specs.Varint.{varint_bytes}
 use Rattle.schema_commands.proofs.Setting.{all_out, gathered_after, gathered_cut, one_byte, straight_out}

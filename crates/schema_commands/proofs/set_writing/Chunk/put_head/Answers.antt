@@ -1,5 +1,4 @@
-use Rattle.std.proofs.Common.{◌∙◌, ◌+◌, ap, append_assoc, arith, length, length-append}
-use Rattle.std.specs.Prelude.{vec_capacity, vec_len}
+use Rattle.std.proofs.Common.{◌∙◌, ◌+◌, ap, append_assoc, arith, length, length-append, vec_capacity, vec_len}
 use Rattle.wire_format.proofs.Varints.{varint_short}
 use Rattle.wire_format.specs.Varint.{varint_bytes}
 use Rattle.schema_commands.proofs.Setting.{one_byte, with_room}

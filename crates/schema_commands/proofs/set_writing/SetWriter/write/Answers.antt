@@ -1,7 +1,5 @@
 use Rattle.schema_commands.proofs.Telling.{handed_on}
-use Rattle.std.proofs.Common.{◌∙◌, ◌++◌, List, ℕ, [], ap, arith, get_or, subst, take}
-use Rattle.std.specs.Prelude.{Err, Ok, flat_map}
-use Rattle.std.proofs.lemmas.List.{take_all}
+use Rattle.std.proofs.Common.{◌∙◌, ◌++◌, List, ℕ, [], ap, arith, get_or, subst, take, Err, Ok, flat_map, take_all}
 use Rattle.proto_compile.specs.Compilation.{bytes_at}
 use Rattle.wire_format.specs.Field.{bytes_field}
 use Rattle.schema_commands.specs.Runs.{IsOutput}

@@ -1,5 +1,4 @@
-use Rattle.std.proofs.Common.{[], take}
-use Rattle.std.specs.Prelude.{Ok, flat_map}
+use Rattle.std.proofs.Common.{[], take, Ok, flat_map}
 use Rattle.proto_compile.specs.Compilation.{bytes_at}
 use Rattle.wire_format.specs.Field.{bytes_field}
 use Rattle.schema_commands.specs.Gathered.{IsGathered}

@@ -1,5 +1,4 @@
-use Rattle.std.proofs.Common.{arith, take}
-use Rattle.std.specs.Prelude.{flat_map}
+use Rattle.std.proofs.Common.{arith, take, flat_map}
 use Rattle.std.proofs.lemmas.Grind.{common_steps, flat_map-append}
 use Rattle.std.proofs.lemmas.List.{take_more}
 use Rattle.source_search.specs.Searching.{texts_in}

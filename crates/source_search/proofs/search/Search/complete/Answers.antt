@@ -1,6 +1,5 @@
 use Rattle.std.proofs.lemmas.List.{length-map}
-use Rattle.std.proofs.Common.{◌≡◌, ◌∙◌, ◌-◌, List, ap, arith, drop, length, length-drop, take, take_all}
-use Rattle.std.specs.Prelude.{flat_map}
+use Rattle.std.proofs.Common.{◌≡◌, ◌∙◌, ◌-◌, List, ap, arith, drop, length, length-drop, take, take_all, flat_map}
 use Rattle.source_folder.specs.declared.folder.NamedText.{NamedText}
 use Rattle.source_search.specs.Searching.{AsksFor, sources_of, texts_in}
 use Rattle.source_search.specs.Wanted.{named_bytes}

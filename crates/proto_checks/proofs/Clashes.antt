@@ -1,0 +1,151 @@
+-- Elements that clash with earlier ones.
+use Rattle.std.proofs.Common.{◌≡◌, refl, ℕ, zero, suc, leb, ◌+◌, ◌-◌, ◌%◌, ◌<◌, inl, inr, ◌⊎◌}
+use Rattle.std.proofs.Common.{List, [], ◌∷◌, ◌++◌, length, get_or, take, set, map, arith, Bool, true, false}
+use Rattle.std.specs.Prelude.{Option, Some, None, ◌↔◌, ◌&&◌, nat_lt}
+use Rattle.std.specs.Bool.{Decides}
+use Rattle.std.specs.List.{AllAdjacentBelow, list_any}
+use Rattle.std.proofs.lemmas.Bool.{both_ways, cases_lt, false≢true}
+use Rattle.std.proofs.lemmas.Bool.Decides.{nat_tests}
+use Rattle.std.proofs.lemmas.Grind.{common_steps}
+use Rattle.std.proofs.lemmas.List.{get_or_default, get_or-take, length-take-le, get_or-append-add}
+use Rattle.std.proofs.lemmas.List.Folds.{Any-from_list_any, list_any-from_Any}
+use Rattle.proto_base.specs.declared.kind.Kind.{Kind}
+use Rattle.proto_base.specs.declared.kind.Kind.TheVariants as kind
+use Rattle.proto_base.specs.declared.spot.Spot.{Spot}
+use Rattle.proto_base.specs.Least.{IsLeast, spot}
+use Rattle.proto_base.specs.Lesser.{IsLesser}
+use Rattle.proto_base.specs.Sets.{◌∪◌, StandsAt, Each, Later, Where}
+use Rattle.proto_base.proofs.Among.{later_short, least_single}
+use Rattle.proto_base.proofs.Sets.{LaterTo, one_at, later_clash, later_skip, least_union, least_same, lesser_none, item_at, least_none}
+use Rattle.proto_tree.specs.declared.file.Package.{Package}
+use Rattle.proto_checks.specs.Checks.{PackageTwice}
+use Rattle.proto_checks.specs.Marks.{Marked, NumberTwice, ReservedOverlap}
+use Rattle.proto_checks.specs.declared.marks.MarkedNumber.{MarkedNumber}
+use Rattle.proto_checks.specs.declared.marks.MarkedRange.{MarkedRange}
+
+-- what is made of the element at n stands at n
+pub stands_made : {X Y : Type 0} (f : X → Y) (xs : List X) (n : ℕ) (a : X) → n < length xs → a ≡ get_or xs n a
+    → StandsAt (map f xs) n (f a)
+stands_made f xs n a below is = grind (arith, common_steps)
+
+module _ {X : Type 0} (xs : List X) (R : X → X → Type 0) (at : X → Spot) (test : X → Bool) (n : ℕ) (c : X)
+    (told : (a : X) → Decides (test a) (R a c)) (here : StandsAt xs n c) where
+  -- the test finds the elements that clash with c
+  pub few_clash : (p r : Option Spot) → list_any test (take n xs) ≡ true → IsLeast (LaterTo xs n R at) p
+      → IsLesser p (Some (at c)) r → IsLeast (LaterTo xs (n + 1) R at) r
+  few_clash p r some h w = grind (arith, both_ways, get_or-take, length-take-le, Any-from_list_any, later_clash)
+
+  pub few_skip : (p : Option Spot) → list_any test (take n xs) ≡ false → IsLeast (LaterTo xs n R at) p
+      → IsLeast (LaterTo xs (n + 1) R at) p
+  few_skip p none h = grind (arith, both_ways, get_or-take, length-take-le, list_any-from_Any, later_skip)
+
+-- the lengths of the first n texts are taken
+abbrev pub AreTaken : List Marked → ℕ → List Bool → Type 0
+AreTaken ts n taken = (i : ℕ) (a : Marked) → i < n → StandsAt ts i a → get_or taken (length a.text % 64) false ≡ true
+
+pub taken_more : (ts : List Marked) (n : ℕ) (taken : List Bool) (c : Marked) → length taken ≡ 64 → StandsAt ts n c
+    → AreTaken ts n taken → AreTaken ts (n + 1) (set taken (length c.text % 64) true)
+taken_more ts n taken c size here old i a below there = grind (arith, common_steps, cases_lt, one_at)
+
+-- a text of another length than all before it
+pub untaken_skip : (ts : List Marked) (at : Marked → Spot) (n : ℕ) (taken : List Bool) (c : Marked) (p : Option Spot)
+    → StandsAt ts n c → AreTaken ts n taken → get_or taken (length c.text % 64) false ≡ false
+    → IsLeast (LaterTo ts n (λ a b. a.text ≡ b.text) at) p → IsLeast (LaterTo ts (n + 1) (λ a b. a.text ≡ b.text) at) p
+untaken_skip ts at n taken c p here old free h = grind (arith, both_ways, later_skip)
+
+-- within two lists, and across them
+module _ {X : Type 0} (R : X → X → Type 0) (at : X → Spot) (xs ys : List X) where
+  abbrev pub Across : X → Spot → Type 0
+  Across b x = ((i : ℕ) × (a : X) × StandsAt xs i a × R a b) × (x ≡ at b)
+
+  abbrev InParts : Spot → Type 0
+  InParts = Later xs R at ∪ Later ys R at ∪ Each ys Across
+
+  stands_split : (i : ℕ) (a : X) → StandsAt (xs ++ ys) i a
+      → ((i < length xs) × StandsAt xs i a) ⊎ ((j : ℕ) × (i ≡ length xs + j) × StandsAt ys j a)
+  stands_split i a s = elim (cases_lt i (length xs)) [
+    | inl less ↦ inl (grind (arith, common_steps))
+    | inr more ↦ inr (i - length xs, omega arith, grind (arith, common_steps))
+  ]
+
+  stands_left : (i : ℕ) (a : X) → StandsAt xs i a → StandsAt (xs ++ ys) i a
+  stands_left i a s = grind (arith, common_steps)
+
+  stands_right : (i : ℕ) (a : X) → StandsAt ys i a → StandsAt (xs ++ ys) (length xs + i) a
+  stands_right i a s = grind (arith, common_steps, get_or-append-add)
+
+  part_of : (x : Spot) → Later (xs ++ ys) R at x → InParts x
+  part_of x w = grind (arith, stands_split w.0 w.2 w.5, stands_split w.1 w.3 w.6)
+
+  of_part : (x : Spot) → InParts x → Later (xs ++ ys) R at x
+  of_part x (inl (inl w)) = grind (arith, stands_left w.0 w.2 w.5, stands_left w.1 w.3 w.6)
+  of_part x (inl (inr w)) = grind (arith, stands_right w.0 w.2 w.5, stands_right w.1 w.3 w.6)
+  of_part x (inr w) = grind (arith, stands_left, stands_right w.0 w.1 w.2)
+
+  pub later_append : (a b p c r : Option Spot) → IsLeast (Later xs R at) a → IsLeast (Later ys R at) b
+      → IsLesser a b p → IsLeast (Each ys Across) c → IsLesser p c r → IsLeast (Later (xs ++ ys) R at) r
+  later_append a b p c r h k l m o = least_same InParts _ r part_of of_part (least_union (least_union h k l) m o)
+
+-- lists that rise: each element stands before the next, by a test that carries over
+abbrev pub Rises : {X : Type 0} → (X → X → Bool) → List X → Type 0
+Rises before xs = AllAdjacentBelow (λ a b. true ≡ before a b) xs (length xs)
+
+module _ {X : Type 0} (before : X → X → Bool)
+    (on : (a b c : X) → true ≡ before a b → true ≡ before b c → true ≡ before a c) (xs : List X)
+    (up : Rises before xs) where
+  before_far : (i j : ℕ) (d : X) → i < j → j < length xs → true ≡ before (get_or xs i d) (get_or xs j d)
+  before_far i zero d early below = absurd (omega arith)
+  before_far i (suc k) d early below =
+      grind (arith, cases_lt i k, up k d, on (get_or xs i d) (get_or xs k d), before_far i k d)
+
+  -- none that clashes stands before another
+  rising_none : (R : X → X → Type 0) (at : X → Spot) → ((a b : X) → true ≡ before a b → R a b → ⊥)
+      → IsLeast (Later xs R at) None
+  rising_none R at apart =
+      least_none (Later xs R at) (λ x w. grind (arith, before_far w.0 w.1 w.2, apart w.2 w.3, get_or_default))
+
+abbrev pub is_less : MarkedNumber → MarkedNumber → Bool
+is_less a b = nat_lt a.number b.number
+
+pub numbers_none : (k : Kind) (ns : List MarkedNumber) → Rises is_less ns → IsLeast (NumberTwice k ns) None
+numbers_none k ns up =
+    rising_none is_less (λ a b c h l. grind (arith, nat_tests)) ns up _ _ (λ a b h e. grind (arith, nat_tests))
+
+-- a range that is not backwards ends before the next
+abbrev pub is_apart : MarkedRange → MarkedRange → Bool
+is_apart a b = leb a.start a.end && nat_lt a.end b.start
+
+pub ranges_none : (rs : List MarkedRange) → Rises is_apart rs → IsLeast (ReservedOverlap rs) None
+ranges_none rs up =
+    rising_none is_apart (λ a b c h l. grind (arith, nat_tests)) rs up _ _ (λ a b h e. grind (arith, nat_tests))
+
+-- package statements: each but the first is one too many
+abbrev pub again : Package → Spot
+again p = spot p.keyword.start kind.PackageTwice
+
+-- what a loop over packages keeps
+pub record Repeated (ps : List Package) (is_named : Bool) (first : Option Spot) : Type 0 where
+  pub named : (is_named ≡ true) ↔ (0 < length ps)
+  pub least : IsLeast (PackageTwice ps) first
+
+pub repeated_more : (ps : List Package) (p : Package) (is_named : Bool) (a b r : Option Spot) → Repeated ps is_named a
+    → IsLeast (Where (is_named ≡ true) (again p)) b → IsLesser a b r → Repeated (ps ++ p ∷ []) true r
+repeated_more ps p is_named a b r h k w =
+    let Any = λ (a b : Package). Unit {0} in
+    let across = least_same (Where (is_named ≡ true) (again p)) (Across Any again ps (p ∷ []) p) b
+    (λ x v. (h.named.1 (omega (arith, v.0.2.0)), v.1))
+    (λ x v. ((0, get_or ps 0 p, item_at ps 0 p (h.named.0 v.0), tt), v.1)) k in
+    record {
+      named = (λ e. grind (arith, common_steps), λ some. refl);
+      least = later_append Any again ps (p ∷ []) a None a b r h.least (later_short (p ∷ []) Any again (omega arith))
+          (lesser_none a) (least_single _ p b across) w;
+    }
+
+pub repeated_none : Repeated [] false None
+repeated_none = grind (arith, false≢true, later_short)
+
+-- a test of elements, and of what is made of them
+pub any_made : {A B : Type 0} (test : B → Bool) (view : A → B) (xs : List A)
+    → list_any (λ x. test (view x)) xs ≡ list_any test (map view xs)
+any_made test view [] = refl
+any_made test view (x ∷ xs) = grind (arith, any_made test view xs)

@@ -1,0 +1,6 @@
+use Rattle.proto_base.specs.Least.{IsLeast}
+use Rattle.proto_base.proofs.Sets.{EachTo}
+use Rattle.proto_checks.proofs.each.first_of.Given as goal
+
+abbrev pub invariant-loop-item : goal.invariant-loop-item
+invariant-loop-item g l = IsLeast (EachTo l.items l.item-index g.C.Check.breaks) l.first

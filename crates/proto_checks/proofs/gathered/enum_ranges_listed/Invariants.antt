@@ -1,7 +1,0 @@
-use Rattle.std.proofs.Common.{◌≡◌, take}
-use Rattle.std.specs.Prelude.{flat_map}
-use Rattle.proto_options.specs.Statements.{enum_reserved, ranges_in}
-use Rattle.proto_checks.proofs.gathered.enum_ranges_listed.Given as goal
-
-abbrev pub invariant-loop-item : goal.invariant-loop-item
-invariant-loop-item l = l.ranges.items ≡ flat_map ranges_in (flat_map enum_reserved (take l.item-index l.items))

@@ -1,8 +1,0 @@
-use Rattle.proto_checks.specs.Checks.{IsTooLong}
-use Rattle.proto_base.proofs.Among.{least_cons}
-use Rattle.proto_checks.proofs.lengths.enum_fault.Goals as goal
-
-pub returns : goal.returns
-returns c = λ scope at. least_cons (IsTooLong c.args.limits.now) _ _ _ _ _
-    (rw c.as_str.ensures at (c.name_fault-own.ensures scope at))
-    (rw c.as_slice.ensures at (c.members_fault-values.ensures scope at)) c.lesser.ensures

@@ -1,0 +1,10 @@
+use Rattle.proto_base.proofs.Sets.{least_union}
+use Rattle.proto_checks.proofs.numbers.first_reserved_range_fault.Goals as goal
+
+pub returns : goal.returns
+returns g c =
+    let bounds = rw (c.deref.ensures.value, c.in_ok-listed.ensures) at c.in_ok-bounds.ensures in
+    let bound = rw (c.deref-2.ensures.value, bounds) at c.first_outside-bound.ensures in
+    let ranges = rw (c.deref-3.ensures.value, c.in_ok-listed.ensures) at c.in_ok-ranges.ensures in
+    let range = rw (c.deref-4.ensures.value, ranges) at c.in_ok-range.ensures in
+    least_union bound range c.lesser.ensures
