@@ -34,7 +34,8 @@ IsNoFieldNumber n = Where (IsFieldNumber n.number → ⊥) (spot n.place kind.Fi
 abbrev pub OwnFieldNumbersBreak : List MarkedNumber → Spot → Type 0
 OwnFieldNumbersBreak ns = Each ns IsNoFieldNumber ∪ NumberTwice kind.FieldNumberTwice ns
 
--- reserved ranges as they stand, beside the numbers in use: their bounds lie within these, and `max` is the greatest
+-- what reserved ranges break, beside the numbers in use: a bound lies outside these, of which `max` is the greatest,
+-- or a range is turned round, overlaps another or has a number in use
 abbrev pub ReservedRangesBreak : {N : Type 0} → (N → MarkedNumber) → (least greatest : ℕ) → Kind → List (Range N)
     → List MarkedNumber → Spot → Type 0
 ReservedRangesBreak mark least greatest what listed used =

@@ -13,7 +13,7 @@ pub(crate) trait Check {
     ghost use Rattle.proto_base.specs.Least.{IsLeast};
     ghost use Rattle.proto_base.specs.declared.spot.Spot.{Spot};
 
-    /// The rules, each with its place.
+    /// The spots at which its rules are broken.
     ghost breaks: { Self → Spot → Type 0 };
 
     /// The first of these faults.

@@ -1,5 +1,5 @@
--- Words of private contracts: keys, by which occurrences are found and ordered. Occurrences stand in parts. A key is a hash,
--- below it the number of a part, and below that an index in it.
+-- Words of private contracts: keys, by which occurrences are found and ordered. Occurrences stand in parts. A key is a
+-- hash, below it the number of a part, and below that an index in it.
 use Rattle.std.specs.Prelude.{◌≡◌, ℕ, ◌/◌, ◌%◌, ◌<◌, List, [], All, length, map, slice_index_or}
 use Rattle.std.specs.declared.cmp.Ordering.{Ordering}
 use Rattle.std.specs.Cmp.Lexicographic.{slice_cmp}
