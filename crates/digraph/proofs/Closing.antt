@@ -1,20 +1,10 @@
 -- What the loops keep that search over edges, and those that gather lists.
-use Rattle.std.proofs.Common.{◌≡◌, ℕ, ◌+◌, ◌<◌, ◌≤◌, List, [], length, get_or, refl, arith, inl, inr, ◌⊎◌, Bool, Contains, ◌↔◌, ◌∷◌, ◌++◌, lit<}
-use Rattle.std.proofs.lemmas.Bool.{cases_lt}
+use Rattle.digraph.proofs.Common.{◌≡◌, ℕ, ◌+◌, ◌<◌, ◌≤◌, List, [], length, get_or, refl, arith, inl, inr, ◌⊎◌, Bool, Contains, ◌↔◌, ◌∷◌, ◌++◌, lit<, cases_lt, Contains-get_or, Graph, Edge, successors, IsFalling, Leads, here, through, AreMarked, IsFrontOf, NoneMarked, IsStrictlyIncreasing, common_steps, IsReach, AreReaches, InLists, IsUnion, AreClosed}
 use Rattle.std.proofs.Math.ListN.{get_or-append}
-use Rattle.std.proofs.lemmas.List.Elements.{Contains-get_or}
-use Rattle.digraph.specs.Edges.{Graph, Edge, successors, IsFalling}
-use Rattle.digraph.specs.Leads.{Leads, here, through}
-use Rattle.digraph.specs.Marks.{AreMarked, IsFrontOf, NoneMarked, Among}
-use Rattle.digraph.proofs.Visiting.{IsDistinct_none, among_all, no_position, push_iff, rises_push, one_only}
-use Rattle.digraph.proofs.Ways.{leads_last, leads_trans, leads_le}
-use Rattle.digraph.proofs.Gathering.{joined_both}
-use Rattle.std.specs.List.Sorted.{IsStrictlyIncreasing}
-use Rattle.std.proofs.lemmas.Grind.{common_steps}
-use Rattle.digraph.specs.Reaches.{IsReach, AreReaches, InLists, IsUnion, AreClosed}
+use Rattle.digraph.proofs.Rows.{IsDistinct_none, among_all, push_iff, rises_push, one_only, leads_last, leads_trans, leads_le, joined_both}
 
 pub no_member : (xs : List ℕ) (c : ℕ) → xs ≡ [] → Contains xs c → ⊥
-no_member xs c e w = let here' = rw e at w in no_position here'.0 here'.1
+no_member xs c e w = let here' = rw e at w in omega (arith, here'.1)
 
 -- no node is marked, and none is in the list
 pub none_are : (marks : List Bool) (nodes : List ℕ) → NoneMarked marks → nodes ≡ [] → AreMarked marks nodes
@@ -58,23 +48,15 @@ closed g found next c h done _ (through a b edge more) w =
     let at = (among_all found (length found) a refl).0 w in
     closed g found next c h done b more (done at.0 b (omega arith) (rw at.2 edge))
 
-pub record Gathered (lists : List (List ℕ)) (nodes : List ℕ) (n : ℕ) (marks : List Bool)
-    (marked : List ℕ) : Type 0 where
-  pub room : length lists ≤ length marks
-  pub inside : (k : ℕ) → k < length nodes → get_or nodes k 0 < length lists
-  pub are : AreMarked marks marked
-  pub gathered : (c : ℕ) → Contains marked c
-      ↔ ((b : ℕ) × Among nodes n b × Contains (get_or lists b []) c)
-
 -- ---- lists, one after the other
 
 pub reach_closed : (g : Graph) (lists : List (List ℕ)) (n : ℕ) → IsFalling g → AreReaches g lists n → AreClosed lists n
 reach_closed g lists n falling all = record {
   own = λ a h. ((all a h).members a).1 here;
-  within = λ a b h w. omega (arith, leads_le g b a falling (((all a h).members b).0 w));
+  within = λ a b h w. omega (arith, leads_le (Edge g) (λ x. x) falling b a (((all a h).members b).0 w));
   closed = λ a b c h w v. (
       let ab = ((all a h).members b).0 w in
-      let le = leads_le g b a falling ab in
+      let le = leads_le (Edge g) (λ x. x) falling b a ab in
       ((all a h).members c).1 (leads_trans (Edge g) b c a ab (((all b (omega arith)).members c).0 v)));
 }
 

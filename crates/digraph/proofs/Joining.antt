@@ -1,15 +1,9 @@
 -- Rows of bits that are joined, and what they say of ways.
-use Rattle.std.proofs.lemmas.Grind.{common_steps}
-use Rattle.std.proofs.Common.{◌≡◌, ◌∙◌, refl, sym, subst, ℕ, ◌+◌, ◌<◌, ◌≤◌, ◌⊎◌, List, length, get_or, inl, inr, arith, Contains, ◌↔◌}
-use Rattle.std.proofs.lemmas.Bool.{cases_lt}
-use Rattle.std.proofs.lemmas.List.Elements.{Contains-get_or}
+use Rattle.digraph.proofs.Common.{common_steps, ◌≡◌, ◌∙◌, refl, sym, subst, ℕ, ◌+◌, ◌<◌, ◌≤◌, ◌⊎◌, List, length, get_or, inl, inr, arith, Contains, ◌↔◌, cases_lt, Contains-get_or, Graph, Edge, IsFalling, successors, Leads, here, through, node_at}
 use Rattle.bit_matrix.specs.Bits.{Bits, has}
 use Rattle.bit_matrix.specs.Changes.{Has, HasInserted, HasJoined, IsAsLarge, IsLonger, columns_of}
-use Rattle.digraph.proofs.Gathering.{joined_both, joined_fresh, joined_two}
-use Rattle.digraph.specs.Edges.{Graph, Edge, IsFalling, successors}
-use Rattle.digraph.specs.Leads.{Leads, here, through}
+use Rattle.digraph.proofs.Rows.{joined_both, joined_fresh, joined_two}
 use Rattle.digraph.specs.ReachRows.{HasRowPushed, HasRowsJoined, InRows, LeadsToLabel}
-use Rattle.digraph.specs.Renumbered.{node_at}
 
 -- ---- bits that are as they were
 

@@ -1,26 +1,8 @@
 -- What the rounds keep that find the ranks.
-use Rattle.std.proofs.Common.{rules, ◌≡◌, sym, ℕ, zero, suc, ◌<◌, List, [], ◌∷◌, length, get_or, ap, refl, arith, eqb-true, ne_eqb, eqb, ◌+◌, ◌++◌, inl, inr, ◌⊎◌, Bool, Contains, ◌↔◌, set, length-set, ◌∙◌, ◌≤◌, length-append, replicate}
-use Rattle.std.specs.List.{All, IsDistinct}
-use Rattle.std.proofs.lemmas.List.Elements.{All-nil, All-cons, All-contains, recursion_from_All, Contains-get_or}
-use Rattle.std.proofs.lemmas.Map.Views.{Contains-from_any, list_any-from_Contains}
-use Rattle.std.proofs.lemmas.Map.Keys.{IsDistinct-cons, IsDistinct-from_apart}
-use Rattle.std.proofs.lemmas.Map.Steps.{length-le_from_distinct_below, le-length_from_below}
-use Rattle.digraph.specs.Edges.{Graph, Edge, successors, IsWithin}
-use Rattle.digraph.specs.Leads.{Leads, here}
-use Rattle.digraph.specs.Reaches.{HasNoCycle}
-use Rattle.digraph.proofs.Ways.{leads_last}
-use Rattle.digraph.proofs.Visiting.{IsDistinct_none, among_more, no_position, push_iff, append_iff, distinct_push, steps_append, default_same}
-use Rattle.digraph.proofs.Gathering.{joined_step, joined_end, where_more, where_skip, joined_more}
-use Rattle.std.proofs.lemmas.Grind.{common_steps}
-use Rattle.std.specs.List.Sorted.{IsStrictlyIncreasing}
-use Rattle.std.proofs.lemmas.Bool.{cases_eq}
+use Rattle.digraph.proofs.Common.{rules, ◌≡◌, sym, ℕ, zero, suc, ◌<◌, List, [], ◌∷◌, length, get_or, ap, refl, arith, ne_eqb, eqb, ◌+◌, ◌++◌, inl, inr, ◌⊎◌, Bool, Contains, ◌↔◌, set, length-set, ◌∙◌, ◌≤◌, length-append, replicate, All, IsDistinct, All-nil, All-cons, All-contains, recursion_from_All, Contains-get_or, IsDistinct-cons, Graph, Edge, successors, IsWithin, Leads, here, HasNoCycle, common_steps, IsStrictlyIncreasing, cases_eq, IsMarked, Among, rank_in, IsBefore, IsRanked, IsRankOrder, IsPassed, ArePassed, Stops, AllMarked, GoesInto}
+use Rattle.digraph.proofs.Rows.{few, many, once, leads_last, IsDistinct_none, among_more, push_iff, append_iff, distinct_push, steps_append, joined_step, joined_end, where_more, where_skip, joined_more, edge_below}
 use Rattle.std.proofs.lemmas.Map.Made.{Contains-tail}
-use Rattle.digraph.specs.Marks.{IsMarked, Among}
-use Rattle.digraph.specs.Ranks.{rank_in, IsBefore, IsRanked, IsRankOrder}
-use Rattle.digraph.specs.Rounds.{IsPassed, ArePassed, Stops, AllMarked, GoesInto}
-use Rattle.std.specs.Cmp.{nat_eq_equiv}
-use Rattle.digraph.proofs.Renumbering.{before_apart, before_differs}
-use Rattle.digraph.proofs.Rows.{edge_below}
+use Rattle.digraph.proofs.Renumbering.{before_trans, before_differs}
 
 -- ---- nodes that have edges among themselves lie on a cycle
 
@@ -54,8 +36,7 @@ module _ (g : Graph) (n : ℕ) (R : ℕ → Type 0) (stuck : (a : ℕ) → R a �
   none_stuck : (a : ℕ) → R a → ⊥
   none_stuck a ra =
       let (head, xs, r, path, long) = walk a ra (suc n) in
-      let small = length-le_from_distinct_below xs n path.distinct
-      (λ q e. (All-contains (LeadsOn g n head) xs q path.each (Contains-from_any eqb-true q xs e)).0) in
+      let small = few xs n path.distinct (λ q w. (All-contains (LeadsOn g n head) xs q path.each w).0) in
       omega arith
 
 -- ---- one row
@@ -71,7 +52,7 @@ mark_cases marks a = grind arith
 -- all of them are marked, or one is not
 all_cases : (marks : List Bool) (xs : List ℕ)
     → ((c : ℕ) → Contains xs c → IsMarked marks c) ⊎ ((c : ℕ) × Contains xs c × (IsMarked marks c → ⊥))
-all_cases marks [] = inl (λ c w. absurd (no_position w.0 w.1))
+all_cases marks [] = inl (λ c w. absurd (omega (arith, w.1)))
 all_cases marks (x ∷ xs) = elim (mark_cases marks x) [
   | inl mark ↦ elim (all_cases marks xs) [
     | inl all ↦ inl (λ c w. elim (cases_eq x c) [
@@ -82,15 +63,6 @@ all_cases marks (x ∷ xs) = elim (mark_cases marks x) [
   ]
   | inr out ↦ inr (x, (0, omega arith, refl), out)
 ]
-
--- ---- nodes that get a rank
-
-pub record Settled (nodes : List ℕ) (rank : ℕ) (old : List Bool) (before : List ℕ) (n : ℕ) (marks : List Bool)
-    (ranks : List ℕ) : Type 0 where
-  pub room : (k : ℕ) → k < length nodes → (get_or nodes k 0 < length marks) × (get_or nodes k 0 < length ranks)
-  pub marked : (c : ℕ) → IsMarked marks c ↔ (IsMarked old c ⊎ Among nodes n c)
-  pub ranked : (c : ℕ) → Among nodes n c → rank_in ranks c ≡ rank
-  pub others : (c : ℕ) → (Among nodes n c → ⊥) → rank_in ranks c ≡ rank_in before c
 
 -- ---- what is passed
 
@@ -127,18 +99,6 @@ appending_more g marks nodes old n k passed ready ys h row which v =
             (where_skip (AllMarked g marks) p a (among_more nodes n a) part))
       ];
     }
-
--- ---- the nodes that are ready next
-
-pub record Collecting (g : Graph) (marks : List Bool) (nodes : List ℕ) (n : ℕ) (passed ready : List ℕ) : Type 0 where
-  pub are : ArePassed g marks passed
-  pub found : (a : ℕ) → Contains ready a ↔ (((b : ℕ) × Among nodes n b × Edge g a b) × AllMarked g marks a)
-
--- ---- the nodes without a successor
-
-pub record Leaves (g : Graph) (n : ℕ) (leaves : List ℕ) : Type 0 where
-  pub rises : IsStrictlyIncreasing leaves
-  pub members : (a : ℕ) → Contains leaves a ↔ ((a < n) × (successors g a ≡ []))
 
 -- what the loop over the rounds has
 pub record Stage : Type 0 where
@@ -271,9 +231,7 @@ module _ (g : Graph) (s t : Stage) (l : Levels g s) (r : Round g s t) where
 
 module _ (g : Graph) (s : Stage) (l : Levels g s) where
   order_distinct : IsDistinct eqb s.order
-  order_distinct = IsDistinct-from_apart eqb s.order (λ i j d less inside.
-      rw (default_same s.order i d 0 (omega arith), default_same s.order j d 0 inside)
-      (ne_eqb _ _ (before_differs s.ranks _ _ (before_apart s.ranks s.order l.ordered i j less inside))))
+  order_distinct = once (IsBefore s.ranks) (before_trans s.ranks) (λ a w. before_differs s.ranks a a w refl) _ l.ordered
 
   in_order : (q : ℕ) → Contains s.order q → q < length g
   in_order q w = let m = (l.known q).1 w in omega arith
@@ -281,9 +239,8 @@ module _ (g : Graph) (s : Stage) (l : Levels g s) where
   -- where a node has no mark, the order has not all of them
   pub order_shorter : (a : ℕ) → a < length g → (IsMarked s.marks a → ⊥) → length s.order < length g
   order_shorter a h out =
-      let once = distinct_push s.order a order_distinct (λ w. out ((l.known a).1 w)) in
-      let short = length-le_from_distinct_below (s.order ++ a ∷ []) (length g) once
-      (λ q e. elim ((push_iff s.order a q).0 (Contains-from_any eqb-true q (s.order ++ a ∷ []) e)) [
+      let once' = distinct_push s.order a order_distinct (λ w. out ((l.known a).1 w)) in
+      let short = few (s.order ++ a ∷ []) (length g) once' (λ q w. elim ((push_iff s.order a q).0 w) [
         | inl old ↦ in_order q old
         | inr is ↦ omega arith
       ]) in
@@ -307,11 +264,7 @@ module _ (g : Graph) (s : Stage) (l : Levels g s) where
 
   pub levels_order : length g ≤ length s.order → IsRankOrder s.ranks s.order
   levels_order whole = record {
-    size = omega (
-      arith,
-      length-le_from_distinct_below s.order (length g) order_distinct
-          (λ q e. in_order q (Contains-from_any eqb-true q s.order e)),
-    );
+    size = omega (arith, few s.order (length g) order_distinct in_order);
     rises = l.ordered;
     whole = λ a. (
       λ w. (let h = in_order a w in omega arith),
@@ -328,6 +281,8 @@ levels_stuck g s within l none short acyclic =
       | inl all ↦ (let w = (l.ready a).1 (h, out, all) in absurd (omega arith))
       | inr (b, edge, free) ↦ (h, b, edge, (within a b edge, free))
     ]) acyclic in
-    let long = le-length_from_below s.order (length g) (λ q h. list_any-from_Contains nat_eq_equiv q s.order
-    ((l.known q).0 (elim (mark_cases s.marks q) [ inl m ↦ m | inr out ↦ absurd (free q (h, out)) ]))) in
+    let long = many s.order (length g) (λ q h. (l.known q).0 (elim (mark_cases s.marks q) [
+      | inl m ↦ m
+      | inr out ↦ absurd (free q (h, out))
+    ])) in
     omega arith

@@ -1,9 +1,7 @@
 pub mod Closing
-pub mod Gathering
+mod Common
 pub mod Joining
 pub mod Levels
 pub mod Renumbering
 pub mod Rows
 pub mod Sharing
-pub mod Visiting
-pub mod Ways

@@ -1,13 +1,7 @@
 -- Ranges of a list that only grows, and names for what stands in them.
-use Rattle.std.proofs.Common.{◌≡◌, ℕ, ◌+◌, ◌<◌, ◌≤◌, List, [], ◌∷◌, ◌++◌, length, drop, get_or, refl, arith, length-append, Result, OnErr, ◌∙◌, sym, suc, map, Contains}
-use Rattle.std.proofs.lemmas.List.{length-map, map-append, take_all, get_or-map, drop-map, take-map}
-use Rattle.std.proofs.lemmas.Grind.{common_steps}
-use Rattle.digraph.specs.Marks.{IsFrontOf}
+use Rattle.digraph.proofs.Common.{◌≡◌, ℕ, ◌+◌, ◌<◌, ◌≤◌, List, [], ◌∷◌, ◌++◌, length, drop, get_or, refl, arith, length-append, Result, OnErr, ◌∙◌, sym, suc, map, Contains, length-map, map-append, take_all, get_or-map, drop-map, take-map, common_steps, IsFrontOf, AllByRecursion, recursion_from_All, node_at}
 use Rattle.digraph.specs.Ranges.{range_of, ranges_of, AreWithin, Holds, name_of}
-use Rattle.digraph.proofs.Visiting.{all_push, default_same}
-use Rattle.std.specs.List.{AllByRecursion}
-use Rattle.std.proofs.lemmas.List.Elements.{recursion_from_All}
-use Rattle.digraph.specs.Renumbered.{node_at}
+use Rattle.digraph.proofs.Rows.{all_push, default_same}
 
 pub within_more : (n m : ℕ) (rs : List (ℕ × ℕ)) → n ≤ m → AreWithin n rs → AreWithin m rs
 within_more n m [] h w = tt

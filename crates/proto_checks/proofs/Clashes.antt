@@ -1,27 +1,9 @@
 -- Elements that clash with earlier ones.
-use Rattle.std.proofs.Common.{◌≡◌, refl, ℕ, zero, suc, leb, ◌+◌, ◌-◌, ◌%◌, ◌<◌, inl, inr, ◌⊎◌}
-use Rattle.std.proofs.Common.{List, [], ◌∷◌, ◌++◌, length, get_or, take, set, map, arith, Bool, true, false}
-use Rattle.std.specs.Prelude.{Option, Some, None, ◌↔◌, ◌&&◌, nat_lt}
+use Rattle.proto_checks.proofs.Common.{◌≡◌, refl, ℕ, zero, suc, leb, ◌+◌, ◌-◌, ◌%◌, ◌<◌, inl, inr, ◌⊎◌, List, [], ◌∷◌, ◌++◌, length, get_or, take, set, map, arith, Bool, true, false, Option, Some, None, ◌↔◌, ◌&&◌, nat_lt, AllAdjacentBelow, list_any, both_ways, cases_lt, false≢true, nat_tests, common_steps, get_or_default, get_or-take, length-take-le, get_or-append-add, Any-from_list_any, list_any-from_Any, Spot, IsLeast, spot, IsLesser, ◌∪◌, StandsAt, Each, Later, Where, later_short, least_single, LaterTo, one_at, later_clash, later_skip, least_union, least_same, lesser_none, item_at, least_none, PackageTwice, Marked, NumberTwice, ReservedOverlap, MarkedNumber, MarkedRange}
 use Rattle.std.specs.Bool.{Decides}
-use Rattle.std.specs.List.{AllAdjacentBelow, list_any}
-use Rattle.std.proofs.lemmas.Bool.{both_ways, cases_lt, false≢true}
-use Rattle.std.proofs.lemmas.Bool.Decides.{nat_tests}
-use Rattle.std.proofs.lemmas.Grind.{common_steps}
-use Rattle.std.proofs.lemmas.List.{get_or_default, get_or-take, length-take-le, get_or-append-add}
-use Rattle.std.proofs.lemmas.List.Folds.{Any-from_list_any, list_any-from_Any}
 use Rattle.proto_base.specs.declared.kind.Kind.{Kind}
 use Rattle.proto_base.specs.declared.kind.Kind.TheVariants as kind
-use Rattle.proto_base.specs.declared.spot.Spot.{Spot}
-use Rattle.proto_base.specs.Least.{IsLeast, spot}
-use Rattle.proto_base.specs.Lesser.{IsLesser}
-use Rattle.proto_base.specs.Sets.{◌∪◌, StandsAt, Each, Later, Where}
-use Rattle.proto_base.proofs.Among.{later_short, least_single}
-use Rattle.proto_base.proofs.Sets.{LaterTo, one_at, later_clash, later_skip, least_union, least_same, lesser_none, item_at, least_none}
 use Rattle.proto_tree.specs.declared.file.Package.{Package}
-use Rattle.proto_checks.specs.Checks.{PackageTwice}
-use Rattle.proto_checks.specs.Marks.{Marked, NumberTwice, ReservedOverlap}
-use Rattle.proto_checks.specs.declared.marks.MarkedNumber.{MarkedNumber}
-use Rattle.proto_checks.specs.declared.marks.MarkedRange.{MarkedRange}
 
 -- what is made of the element at n stands at n
 pub stands_made : {X Y : Type 0} (f : X → Y) (xs : List X) (n : ℕ) (a : X) → n < length xs → a ≡ get_or xs n a

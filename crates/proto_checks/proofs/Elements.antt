@@ -1,20 +1,8 @@
 -- The least of what the elements of lists and of statements make.
-use Rattle.std.proofs.Common.{ℕ, ◌+◌, ◌<◌, length, get_or, take, ◌≡◌, List, [], ◌∷◌, inr, arith, false}
-use Rattle.std.specs.Prelude.{Some, Option, None, ◌↔◌, flat_map}
-use Rattle.std.specs.List.{list_any}
-use Rattle.proto_base.specs.Least.{IsLeast}
-use Rattle.proto_base.specs.Sets.{StandsAt, ◌∪◌, Each}
-use Rattle.proto_base.specs.declared.spot.Spot.{Spot}
-use Rattle.proto_base.proofs.Among.{flat_more, each_flat, flat_each, least_nil, least_single}
-use Rattle.proto_base.proofs.Sets.{at_most_itself, least_none, EachTo, each_more, least_same, least_known, least_union, lesser_none}
+use Rattle.proto_checks.proofs.Common.{ℕ, ◌+◌, ◌<◌, length, get_or, take, ◌≡◌, List, [], ◌∷◌, inr, arith, false, Some, Option, None, ◌↔◌, flat_map, list_any, IsLeast, StandsAt, ◌∪◌, Each, Spot, flat_more, each_flat, flat_each, least_nil, least_single, at_most_itself, least_none, EachTo, each_more, least_same, least_known, least_union, lesser_none, oneof_field, enum_value, is_oneof_member, is_value, IsLesser, MarkedNumber, MarkedRange}
 use Rattle.proto_tree.specs.declared.enumeration.EnumItem.{EnumItem}
 use Rattle.proto_tree.specs.declared.oneof.OneofItem.{OneofItem}
-use Rattle.proto_options.specs.Statements.{oneof_field, enum_value}
 use Rattle.proto_checks.specs.Lengths.{capped}
-use Rattle.proto_checks.specs.Parts.{is_oneof_member, is_value}
-use Rattle.proto_base.specs.Lesser.{IsLesser}
-use Rattle.proto_checks.specs.declared.marks.MarkedNumber.{MarkedNumber}
-use Rattle.proto_checks.specs.declared.marks.MarkedRange.{MarkedRange}
 
 -- what the first n elements break
 abbrev pub LeastOf : {X : Type 0} → (X → Spot → Type 0) → List X → ℕ → Option Spot → Type 0

@@ -1,18 +1,7 @@
 -- Intervals in order, each ending no sooner than those before it, and the ranges that they come from.
-use Rattle.std.proofs.Common.{◌≡◌, ℕ, ◌+◌, ◌-◌, ◌<◌, ◌≤◌, List, [], ◌∷◌, ◌++◌, length, get_or, take, drop, drop-cons, set, ap, refl, arith, inl, inr, ◌⊎◌, zero, suc, add-one, append_assoc, leb}
-use Rattle.std.specs.Prelude.{Contains, ◌↔◌, max, true, false}
+use Rattle.proto_checks.proofs.Common.{◌≡◌, ℕ, ◌+◌, ◌-◌, ◌<◌, ◌≤◌, List, [], ◌∷◌, ◌++◌, length, get_or, take, drop, drop-cons, set, ap, refl, arith, inl, inr, ◌⊎◌, zero, suc, add-one, append_assoc, leb, Contains, ◌↔◌, max, true, false, cases_lt, nat_tests, get_or_default, take_more_set, drop-set-lt, Contains-append_left, Contains-get_or, Contains-push, Contains-push_cases, Contains-permutation, IsPermutation-sym, IsPartitionedBy-leb, StandsAt, one_at, Share, Interval, MarkedRange}
 use Rattle.std.specs.List.Sorted.{IsPermutation, IsPartitionPoint, IsPartitionedBy}
-use Rattle.std.proofs.lemmas.Bool.{cases_lt}
-use Rattle.std.proofs.lemmas.Bool.Decides.{nat_tests}
-use Rattle.std.proofs.lemmas.List.{get_or_default, take_more_set, drop-set-lt}
-use Rattle.std.proofs.lemmas.List.Elements.{Contains-append_left, Contains-get_or, Contains-push, Contains-push_cases}
-use Rattle.std.proofs.lemmas.List.Sorted.{Contains-permutation, IsPermutation-sym, IsPartitionedBy-leb}
-use Rattle.proto_base.specs.Sets.{StandsAt}
-use Rattle.proto_base.proofs.Sets.{one_at}
 use Rattle.proto_checks.specs.Covers.{interval_of, AreIntervals, RisesByStart, RisesByEnd, Reached, IsRaised, IsHeld, IsCover, IsUsed}
-use Rattle.proto_checks.specs.Marks.{Share}
-use Rattle.proto_checks.specs.declared.covers.Interval.{Interval}
-use Rattle.proto_checks.specs.declared.marks.MarkedRange.{MarkedRange}
 
 -- the intervals are those of the first n ranges that hold a number
 abbrev pub IntervalsTo : List MarkedRange → ℕ → List Interval → Type 0

@@ -1,13 +1,10 @@
 -- The statements of messages, and the messages within them.
-use Rattle.std.proofs.Common.{◌≡◌, ◌∙◌, ap, sym, refl, ◌∷◌, ◌++◌}
-use Rattle.std.proofs.lemmas.List.{append-nil}
-use Rattle.std.specs.Prelude.{flat_map}
+use Rattle.proto_checks.proofs.Common.{◌≡◌, ◌∙◌, ap, sym, refl, ◌∷◌, ◌++◌, append-nil, flat_map, bodies_of, bodies_row, bodies}
 use mathlib.Core.Former.{this, arity}
 use Rattle.proto_base.specs.formers.boxed.Boxed.{the_former}
 use Rattle.proto_tree.specs.declared.message.Message.{Message}
 use Rattle.proto_tree.specs.declared.message.MessageItem.{Message', Row_of-MessageItem, end_of-MessageItem, more_of-MessageItem, Row_of-Message, end_of-Message, more_of-Message, items-the_row-MessageItem, items-the_row-Message, items_shown-the_row-MessageItem-0, items_hidden-the_row-Message-1}
 use Rattle.proto_tree.specs.declared.message.MessageItem.TheVariants as of
-use Rattle.proto_checks.specs.Elements.{bodies_of, bodies_row, bodies}
 use Rattle.proto_options.proofs.Rows.{row_of}
 
 -- a message as a statement

@@ -1,4 +1,5 @@
 pub mod Clashes
+mod Common
 pub mod Elements
 pub mod Intervals
 pub mod Items

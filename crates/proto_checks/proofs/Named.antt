@@ -1,11 +1,8 @@
 -- The names of a descriptor, by its messages.
-use Rattle.std.proofs.Common.{◌≡◌, ◌∙◌, ap, List, ◌∷◌}
-use Rattle.std.specs.Prelude.{flat_map}
-use Rattle.std.proofs.lemmas.List.Folds.{flat_map-map}
+use Rattle.proto_checks.proofs.Common.{◌≡◌, ◌∙◌, ap, List, ◌∷◌, flat_map, flat_map-map, MessageNames, names_step, names_of}
 use Rattle.proto_desc.specs.declared.message.MessageDesc.{MessageDesc}
 use Rattle.proto_desc.specs.declared.message.MessageDesc.TheViews.{out-MessageDesc}
 use Rattle.proto_desc.specs.declared.message.MessageDesc.TheFolds.{fold_out-MessageDesc}
-use Rattle.proto_checks.specs.Checks.{MessageNames, names_step, names_of}
 
 -- the names of one message
 abbrev pub own_names : MessageDesc → MessageNames

@@ -1,30 +1,15 @@
 -- Settings by the rules of their element.
-use Rattle.std.proofs.Common.{◌≡◌, ◌∙◌, refl, inl, inr, ◌⊎◌, arith, rules, ℕ}
-use Rattle.std.proofs.Common.{Bool, true, false, List, [], ◌∷◌, map}
-use Rattle.std.specs.Prelude.{Option, Some, None, Contains, All, bytes_eq}
-use Rattle.std.specs.List.{find}
-use Rattle.std.specs.Option.{option_map, unwrap_or}
-use Rattle.std.proofs.lemmas.List.Elements.{All-contains}
-use Rattle.std.proofs.lemmas.List.Folds.{find_at}
+use Rattle.proto_checks.proofs.Common.{◌≡◌, ◌∙◌, refl, inl, inr, ◌⊎◌, arith, rules, ℕ, Bool, true, false, List, [], ◌∷◌, map, Option, Some, None, Contains, All, bytes_eq, find, option_map, unwrap_or, All-contains, find_at, position_or_len, IsLeast, spot, IsLesser, name_place, SettingBreaks, SettingsBreak, is_known_by, judged, IsFaultOf, JudgedTwice, Each, Spot, each_on, later_map, later_short, least_single, least_known, least_union, lesser_none}
 use Rattle.std.proofs.lemmas.List.Sums.{fails_before_first, passes_at_first}
 use Rattle.std.proofs.lemmas.Option.{slice_get_cases}
-use Rattle.std.specs.List.{position_or_len}
 use Rattle.std.proofs.lemmas.Slice.Eq.{bytes_eq-Decides}
 use Rattle.proto_base.specs.declared.kind.Kind.TheVariants as kind
 use Rattle.proto_tree.specs.declared.option.Setting.{Setting}
 use Rattle.proto_desc.specs.declared.rules.Element.{Element}
 use Rattle.proto_tree.specs.Text.{simple_name}
 use Rattle.proto_desc.specs.Rules.{Rule, rules_of}
-use Rattle.proto_base.specs.Least.{IsLeast, spot}
-use Rattle.proto_base.specs.Lesser.{IsLesser}
-use Rattle.proto_checks.specs.Options.{name_place, SettingBreaks, SettingsBreak}
-use Rattle.proto_checks.specs.Judged.{is_known_by, setting_fault}
-use Rattle.proto_checks.specs.Judged.{judged, IsFaultOf, JudgedTwice}
-use Rattle.proto_base.specs.Sets.{Each}
+use Rattle.proto_checks.specs.Judged.{setting_fault}
 use Rattle.proto_checks.specs.declared.options.Judged.{Judged}
-use Rattle.proto_base.specs.declared.spot.Spot.{Spot}
-use Rattle.proto_base.proofs.Among.{each_on, later_map, later_short, least_single}
-use Rattle.proto_base.proofs.Sets.{least_known, least_union, lesser_none}
 
 -- what is found is the first that passes, or none passes
 find_told : {X : Type 0} (p : X → Bool) (xs : List X)

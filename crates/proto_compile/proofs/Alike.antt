@@ -1,20 +1,11 @@
 -- What sources are compiled to, asked in any way.
-use Rattle.std.proofs.Common.{◌≡◌, ◌∙◌, sym, ℕ, ◌+◌, ◌<◌, List, [], ◌∷◌, length, map, refl, arith, Bool, filter, cond, Contains, ◌==◌, sum_by, eqb-true}
+use Rattle.proto_compile.proofs.Common.{◌≡◌, ◌∙◌, sym, ℕ, ◌+◌, ◌<◌, List, [], ◌∷◌, length, map, refl, arith, Bool, filter, cond, Contains, ◌==◌, sum_by, eqb-true, filter_agree, sum_by-IsPermutation, sum_by-cons, Limits, FileDesc, AreLinked, Linked, reach_of, Index, Indexes, is_service_kind, services_of, Occurrence, occurrences, Compilation, IsCompiled, Source}
 use Rattle.std.specs.Set.{is_member}
-use Rattle.std.proofs.lemmas.List.Elements.{filter_agree}
-use Rattle.std.proofs.lemmas.List.Sorted.{sum_by-IsPermutation}
-use Rattle.std.proofs.lemmas.List.Sums.{sum_by-cons}
-use Rattle.proto_base.specs.declared.limits.Limits.{Limits}
-use Rattle.proto_desc.specs.declared.file.FileDesc.{FileDesc}
-use Rattle.proto_links.specs.Linked.{AreLinked, Linked, reach_of}
 use Rattle.std.specs.Cmp.{nat_eq_equiv}
 use Rattle.std.proofs.lemmas.Map.Views.{Contains-from_any, list_any-from_Contains}
 use Rattle.proto_links.proofs.Whole.{whole_of}
-use Rattle.proto_names.specs.Index.{Index, Indexes, is_service_kind, name_of, services_of}
-use Rattle.proto_names.specs.Occurrences.{Occurrence, occurrences}
+use Rattle.proto_names.specs.Index.{name_of}
 use Rattle.proto_compile.specs.Alike.{AreAlike}
-use Rattle.proto_compile.specs.Compilation.{Compilation, IsCompiled}
-use Rattle.proto_compile.specs.declared.source.Source.{Source}
 use Rattle.proto_compile.proofs.OneCompilation.{one_written}
 use Rattle.proto_compile.proofs.OneTyping.{one_analysed, as_many, same_length}
 use Rattle.proto_compile.proofs.Sorting.{moved, one_sorted}

@@ -1,53 +1,26 @@
 -- The least fault of sources: the least of the first pass that finds any. Sources that have passed break no rule.
-use Rattle.std.proofs.Common.{zero-add, ◌≡◌, ◌∙◌, sym, ℕ, ◌+◌, ◌<◌, ◌≤◌, List, [], length, ap, refl, arith, inl, inr, map, subst, Result, Ok, Err, Vec, IfErr, Global, ◌≢◌, Ordering, Greater, nat_cmp}
+use Rattle.proto_compile.proofs.Common.{zero-add, ◌≡◌, ◌∙◌, sym, ℕ, ◌+◌, ◌<◌, ◌≤◌, List, [], length, ap, refl, arith, inl, inr, map, subst, Result, Ok, Err, Vec, IfErr, Global, ◌≢◌, Ordering, Greater, nat_cmp, cases_lt, cases_order, length-map, All-contains, Contains-permutation, IsPermutation-refl, IsPermutation-sym, AtMost, IsLeastBy, spot, NamesRise, Kind, Limits, Place, Spot, StandsAt, FileDesc, names_differ, rise_far, Linked, Index, IsTwice, Occurrence, occurrences, file_desc_bytes, AreResolved, IsAnalysed, TypesBreakAt, Compilation, IsCompiled, IsShort, IsWritten, set_of, Describe, SourceDescribes, Breaks, IsLeastFault, IsNoLater, SourceFault, bad_import, bad_type, fault, file_fault, long_descriptor, long_set, many_files, many_names, of_file, of_list, repeated_file_name, repeated_name, start, TellsOf, IsDescribed, IsFirstFound, IsResolved, IsWrittenShort, AreByName, name_at, text_of, Source, given_at, IfErr-weaker, CompileError, slice_cmp}
 use Rattle.std.proofs.lemmas.Bool.Decides.{nat_tests}
-use Rattle.std.proofs.lemmas.Bool.{cases_lt, cases_order}
-use Rattle.std.proofs.lemmas.List.{length-map}
-use Rattle.std.proofs.lemmas.List.Elements.{All-contains}
-use Rattle.std.proofs.lemmas.List.Sorted.{Contains-permutation, IsPermutation-refl, IsPermutation-sym}
 use Rattle.share_work.specs.Shares.{GivesItems}
-use Rattle.proto_base.specs.Least.{AtMost, IsLeastBy, spot}
-use Rattle.proto_base.specs.NameOrder.{NamesRise}
 use Rattle.proto_base.specs.Limits.{limit_of}
 use Rattle.proto_base.specs.declared.file_fault.FileError.{FileError}
 use Rattle.proto_base.specs.declared.file_fault.FileError.TheVariants as local
 use Rattle.proto_base.specs.declared.file_fault.FileFault.{FileFault}
-use Rattle.proto_base.specs.declared.kind.Kind.{Kind}
 use Rattle.proto_base.specs.declared.kind.Kind.TheVariants as kind
 use Rattle.proto_base.specs.declared.limits.Limit.TheVariants as limit
-use Rattle.proto_base.specs.declared.limits.Limits.{Limits}
-use Rattle.proto_base.specs.declared.place.Place.{Place}
-use Rattle.proto_base.specs.declared.spot.Spot.{Spot}
-use Rattle.proto_base.specs.Sets.{StandsAt}
-use Rattle.proto_desc.specs.declared.file.FileDesc.{FileDesc}
 use Rattle.proto_file.proofs.OneLocal.{no_local, one_local}
 use Rattle.proto_file.specs.Local.{IsLocalFault}
-use Rattle.proto_links.proofs.NameRows.{names_differ, rise_far}
 use Rattle.proto_links.specs.Imports as imports
 use Rattle.proto_links.specs.Bad as bad_imports
-use Rattle.proto_links.specs.Linked.{Linked}
-use Rattle.proto_names.specs.Index.{Index}
 use Rattle.proto_names.specs.Repeated.{IsRepeated}
 use Rattle.proto_names.specs.Occurrences as names
-use Rattle.proto_names.specs.Occurrences.{IsTwice, Occurrence, occurrences}
 use Rattle.proto_types.specs.declared.meaning.NamedType.{NamedType}
-use Rattle.wire_bytes.specs.Descriptor.{file_desc_bytes}
-use Rattle.proto_compile.specs.Analysed.{AreResolved, IsAnalysed, TypesBreakAt}
-use Rattle.proto_compile.specs.Compilation.{Compilation, IsCompiled, IsShort, IsWritten, set_of}
-use Rattle.proto_compile.specs.Descriptions.{Describe, SourceDescribes}
-use Rattle.proto_compile.specs.FaultSet.{Breaks, IsLeastFault, IsNoLater, SourceFault, bad_import, bad_type, fault, file_fault, long_descriptor, long_set, many_files, many_names, of_file, of_list, repeated_file_name, repeated_name, start, TellsOf}
 use Rattle.proto_compile.specs.Faults.{AreSorted, IsFirstRepeated, Tells}
-use Rattle.proto_compile.specs.Outcomes.{IsDescribed, IsFirstFound, IsResolved, IsWrittenShort}
-use Rattle.proto_compile.specs.Sources.{AreByName, name_at, name_of, text_of}
-use Rattle.proto_compile.specs.declared.source.Source.{Source}
-use Rattle.share_work.proofs.Giving.{given_at}
+use Rattle.proto_compile.specs.Sources.{name_of}
 use Rattle.proto_compile.proofs.OneCompilation.{one_set}
 use Rattle.proto_compile.proofs.OneTyping.{as_described, broken_by_index, item_at, one_described, one_resolved, standing_one, typed_at, zipped_at, bad_inside, contains_second, resolved_names, same_names, twice_within}
 use Rattle.proto_compile.proofs.Placing.{NoneBefore, names_after}
 use Rattle.proto_compile.proofs.Sorting.{moved, name_of_item, neighbours, not_before, not_greater, two_at, two_moved}
-use Rattle.std.proofs.lemmas.Result.{IfErr-weaker}
-use Rattle.proto_compile.specs.declared.error.CompileError.{CompileError}
-use Rattle.std.specs.Cmp.Lexicographic.{slice_cmp}
 use Rattle.std.specs.Ordering.{ordering_then}
 use Rattle.std.proofs.lemmas.Cmp.{nat_list_cmp_total, tied_itself}
 use Rattle.std.proofs.lemmas.Map.Lookups.{exact_bytes}

@@ -1,4 +1,5 @@
 pub mod Alike
+mod Common
 pub mod LeastFault
 pub mod Making
 pub mod OneCompilation

@@ -1,34 +1,15 @@
 -- What sources are compiled to.
-use Rattle.std.proofs.Common.{◌≡◌, ◌∙◌, sym, ap, subst, refl, ℕ, ◌<◌, ◌≤◌, List, map, length, arith, All, ◌+◌, Bool, true, inl, inr, [], ◌∷◌, get_or, Option, Some, None, Contains, IsPermutation, filter}
-use Rattle.std.specs.List.{AllZip}
-use Rattle.std.proofs.lemmas.List.{length-map, get_or_default}
-use Rattle.proto_desc.specs.declared.file.FileDesc.{FileDesc}
+use Rattle.proto_compile.proofs.Common.{◌≡◌, ◌∙◌, sym, ap, subst, refl, ℕ, ◌<◌, ◌≤◌, List, map, length, arith, All, ◌+◌, Bool, true, inl, inr, [], ◌∷◌, get_or, Option, Some, None, Contains, IsPermutation, filter, AllZip, length-map, get_or_default, FileDesc, Linked, count_of, Index, Indexes, services_of, is_service_kind, Limits, file_desc_bytes, AreResolved, CompiledFile, IsShort, IsWritten, file_bytes, file_name, set_of, SourceDescribes, compilation, Source, cases_lt, false≢true, All-append, All-contains, All-map, All-nil, All-permutation, Contains-permutation, IsPermutation-sym, length_permutation, count_by-le-length, length-filter, spot, declared_by, full_name, Occurrence, declared_occurrence, occurrences, occurrences_from, occurrences_of, package_occurrence, package_occurrences}
 use Rattle.proto_links.specs.Imports as imports
-use Rattle.proto_links.specs.Linked.{Linked, count_of}
 use Rattle.proto_names.specs.Index as index_names
-use Rattle.proto_names.specs.Index.{Index, Indexes, services_of, is_service_kind}
 use Rattle.proto_base.specs.Limits.{limit_of}
 use Rattle.proto_base.specs.declared.limits.Limit.TheVariants as limit
-use Rattle.proto_base.specs.declared.limits.Limits.{Limits}
-use Rattle.wire_bytes.specs.Descriptor.{file_desc_bytes}
-use Rattle.proto_compile.specs.Analysed.{AreResolved}
-use Rattle.proto_compile.specs.Compilation.{CompiledFile, IsShort, IsWritten, file_bytes, file_name, set_of}
 use Rattle.proto_compile.specs.Sound.{IsSound}
-use Rattle.proto_compile.specs.Descriptions.{SourceDescribes}
 use Rattle.proto_compile.specs.Sources.{name_of}
-use Rattle.proto_compile.specs.Steps.{compilation}
-use Rattle.proto_compile.specs.declared.source.Source.{Source}
 use Rattle.proto_compile.proofs.Rising.{named_once}
 use Rattle.proto_compile.proofs.OneTyping as zipped
-use Rattle.std.proofs.lemmas.Bool.{cases_lt, false≢true}
-use Rattle.std.proofs.lemmas.List.Elements.{All-append, All-contains, All-map, All-nil}
-use Rattle.std.proofs.lemmas.List.Sorted.{All-permutation, Contains-permutation, IsPermutation-sym, length_permutation}
-use Rattle.std.proofs.lemmas.List.Sums.{count_by-le-length, length-filter}
 use Rattle.proto_checks.specs.Checks.{FileBreaks}
-use Rattle.proto_base.specs.Least.{spot}
-use Rattle.proto_desc.specs.DeclaredNames.{declared_by, full_name}
 use Rattle.proto_desc.specs.declared.file.PackageDesc.{PackageDesc}
-use Rattle.proto_names.specs.Occurrences.{Occurrence, declared_occurrence, occurrences, occurrences_from, occurrences_of, package_occurrence, package_occurrences}
 use Rattle.proto_names.specs.Scopes.{prefixes}
 use Rattle.proto_base.specs.declared.kind.Kind.TheVariants as kind
 use Rattle.share_work.proofs.Sums.{of_filter, of_map}

@@ -1,9 +1,6 @@
 -- Sources are compiled to one list of files, in one set order.
-use Rattle.std.proofs.Common.{◌≡◌, List, [], ◌∷◌, length, map, ap, refl, arith}
+use Rattle.proto_compile.proofs.Common.{◌≡◌, List, [], ◌∷◌, length, map, ap, refl, arith, Limits, Compilation, CompiledFile, IsCompiled, IsWritten, file_bytes, file_name, set_of, Source}
 use Rattle.proto_links.proofs.Unique.{one_set_order}
-use Rattle.proto_base.specs.declared.limits.Limits.{Limits}
-use Rattle.proto_compile.specs.Compilation.{Compilation, CompiledFile, IsCompiled, IsWritten, file_bytes, file_name, set_of}
-use Rattle.proto_compile.specs.declared.source.Source.{Source}
 use Rattle.proto_compile.proofs.OneTyping.{one_analysed, one_resolved}
 
 one_file : (f g : CompiledFile) → file_name f ≡ file_name g → file_bytes f ≡ file_bytes g → f ≡ g

@@ -1,38 +1,20 @@
 -- Sources describe one list of files, of their names, and its types resolve to one list.
-use Rattle.std.proofs.Common.{add-zero, ◌≡◌, ◌∙◌, sym, ℕ, zero, suc, ◌+◌, ◌<◌, ◌≤◌, List, [], ◌∷◌, length, get_or, refl, arith, ◌↔◌, map, ap, Contains}
-use Rattle.std.specs.List.{AllZip}
-use Rattle.std.proofs.lemmas.List.{get_or_default, get_or_past, length-map}
-use Rattle.std.proofs.lemmas.List.Sorted.{Contains-permutation, IsPermutation-refl}
-use Rattle.proto_base.specs.Sets.{StandsAt}
-use Rattle.proto_base.specs.declared.spot.Spot.{Spot}
-use Rattle.proto_desc.specs.DeclaredNames.{file_scope}
-use Rattle.proto_desc.specs.declared.file.FileDesc.{FileDesc}
-use Rattle.proto_links.specs.Linked.{AreLinked, Linked}
+use Rattle.proto_compile.proofs.Common.{add-zero, ◌≡◌, ◌∙◌, sym, ℕ, zero, suc, ◌+◌, ◌<◌, ◌≤◌, List, [], ◌∷◌, length, get_or, refl, arith, ◌↔◌, map, ap, Contains, AllZip, get_or_default, get_or_past, length-map, Contains-permutation, IsPermutation-refl, StandsAt, Spot, file_scope, FileDesc, AreLinked, Linked, Index, Indexes, Occurrence, occurrences, ContainsBoth, IsTwice, Limits, AreResolved, AreTypedFrom, IsAnalysed, TypesAt, TypesBreakAt, Describe, SourceDescribes, AreDescribed, text_of, Source, cases_lt, Kind, Place}
 use Rattle.proto_links.specs.Visible.{Sees}
 use Rattle.proto_names.proofs.Built.{below_files, below_from}
 use Rattle.proto_names.proofs.Unique.{alike_back}
-use Rattle.proto_names.specs.Index.{Index, Indexes}
-use Rattle.proto_names.specs.Occurrences.{Occurrence, occurrences, ContainsBoth, IsTwice}
 use Rattle.proto_names.specs.Resolution.{SeenBy}
 use Rattle.proto_names.specs.SeenAlike.{AreSeenAlike}
-use Rattle.proto_base.specs.declared.limits.Limits.{Limits}
 use Rattle.proto_types.proofs.Unique.{breaks_alike, file_same}
 use Rattle.proto_types.specs.References.{TypesBreak}
-use Rattle.proto_compile.specs.Analysed.{AreResolved, AreTypedFrom, IsAnalysed, TypesAt, TypesBreakAt}
-use Rattle.proto_compile.specs.Descriptions.{Describe, SourceDescribes}
-use Rattle.proto_compile.specs.FaultSet.{AreDescribed}
-use Rattle.proto_compile.specs.Sources.{name_of, text_of}
-use Rattle.proto_compile.specs.declared.source.Source.{Source}
+use Rattle.proto_compile.specs.Sources.{name_of}
 use Rattle.proto_file.proofs.OneLocal.{one_descriptor}
 use Rattle.proto_compile.proofs.Sorting.{first_of, moved, one_order}
-use Rattle.std.proofs.lemmas.Bool.{cases_lt}
 use Rattle.std.proofs.lemmas.Slice.Zip.{AllZip-long}
 use Rattle.proto_links.proofs.Rising.{none_in}
 use Rattle.proto_links.specs.Imports as imports
 use Rattle.std.proofs.lemmas.Option.{get_or_from_slice_get, slice_get_within}
 use Rattle.proto_names.specs.Repeated.{IsRepeated}
-use Rattle.proto_base.specs.declared.kind.Kind.{Kind}
-use Rattle.proto_base.specs.declared.place.Place.{Place}
 
 -- ---- what stands at a position of a list
 

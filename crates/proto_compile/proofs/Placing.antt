@@ -1,32 +1,15 @@
 -- Faults stand within the texts of their files.
-use Rattle.std.proofs.Common.{◌≡◌, ◌∙◌, sym, subst, ◌⊎◌, inl, inr, ℕ, zero, suc, ◌+◌, ◌<◌, List, [], ◌∷◌, length, refl, arith, Contains, map, Option, None, Some}
-use Rattle.std.specs.List.{AllZip, AllByRecursion}
-use Rattle.std.proofs.lemmas.Bool.{cases_order}
-use Rattle.std.proofs.lemmas.List.{get_or-map}
-use Rattle.std.proofs.lemmas.List.Elements.{Contains-append_cases}
-use Rattle.std.proofs.lemmas.List.Sorted.{IsPermutation-refl}
-use Rattle.proto_base.specs.declared.kind.Kind.{Kind}
-use Rattle.proto_base.specs.declared.limits.Limits.{Limits}
-use Rattle.proto_base.specs.declared.place.Place.{Place}
-use Rattle.proto_base.specs.Sets.{StandsAt}
-use Rattle.proto_desc.specs.declared.file.FileDesc.{FileDesc}
+use Rattle.proto_compile.proofs.Common.{◌≡◌, ◌∙◌, sym, subst, ◌⊎◌, inl, inr, ℕ, zero, suc, ◌+◌, ◌<◌, List, [], ◌∷◌, length, refl, arith, Contains, map, Option, None, Some, AllZip, AllByRecursion, cases_order, get_or-map, Contains-append_cases, IsPermutation-refl, Kind, Limits, Place, StandsAt, FileDesc, spot, Spot, Occurrence, occurrences_of, occurrences, occurrences_from, declared_occurrence, package_occurrence, package_occurrences, SourceDescribes, AreDescribed, Breaks, IsPlaced, SourceFault, bad_import, bad_type, file_fault, long_descriptor, long_set, many_files, many_names, repeated_file_name, repeated_name, start, name_at, text_of, Source, Declared, declared_by, declared_by_enum, declared_by_message, declared_by_service, declared_field, declared_method, declared_oneof, declared_value, file_scope, scoped}
 use Rattle.proto_desc.specs.declared.file.ImportDesc.{ImportDesc}
 use Rattle.proto_links.specs.Imports as imports
-use Rattle.proto_base.specs.Least.{spot}
-use Rattle.proto_base.specs.declared.spot.Spot.{Spot}
 use Rattle.proto_file.proofs.AfterFirst.{IsAfter, places_after}
 use Rattle.proto_file.proofs.Spots.{Placed, SpotWithin, at_spot, each_within, standing}
-use Rattle.proto_names.specs.Occurrences.{Occurrence, occurrences_of, occurrences, occurrences_from, declared_occurrence, package_occurrence, package_occurrences}
 use Rattle.proto_types.specs.References.{Reference, ReferenceBreaks, TypesBreak, references, field_scope, references_by_message, references_of_field, references_of_kind, references_of_method, references_of_service, references_of_type}
-use Rattle.proto_compile.specs.Descriptions.{SourceDescribes}
-use Rattle.proto_compile.specs.FaultSet.{AreDescribed, Breaks, IsPlaced, SourceFault, bad_import, bad_type, file_fault, long_descriptor, long_set, many_files, many_names, repeated_file_name, repeated_name, start}
-use Rattle.proto_compile.specs.Sources.{name_at, name_of, text_of}
-use Rattle.proto_compile.specs.declared.source.Source.{Source}
+use Rattle.proto_compile.specs.Sources.{name_of}
 use Rattle.proto_file.proofs.PlacesWithin.{FileParts, upto, AreIn, IsIn, both, by_nested, each_given, each_held, each_map, each_marked, each_place, each_places, every, places_out, split, DescWithin, EnumWithin, FieldWithin, MethodWithin, ServiceWithin}
 use Rattle.proto_file.proofs.LocalPlaces.{IsInside, fault_inside, place_inside, places_within}
 use Rattle.proto_compile.proofs.OneTyping.{item_at, standing_one, as_many, bad_inside, contains_second, resolved_names, same_names}
 use Rattle.proto_compile.proofs.Sorting.{moved, name_of_item}
-use Rattle.proto_desc.specs.DeclaredNames.{Declared, declared_by, declared_by_enum, declared_by_message, declared_by_service, declared_field, declared_method, declared_oneof, declared_value, file_scope, scoped}
 use Rattle.proto_desc.specs.Places.{reference_places, kind_places, option_place, field_places, oneof_place, value_place, enum_places, message_places, method_places, service_places, package_places, import_place, places_of}
 use Rattle.proto_desc.specs.declared.enumeration.EnumDesc.{EnumDesc}
 use Rattle.proto_desc.specs.declared.field.FieldDesc.{FieldDesc}

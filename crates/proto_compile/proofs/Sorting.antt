@@ -1,19 +1,12 @@
 -- Sources in the order of their names, which is one; names that stand twice among them; and sorted names.
-use Rattle.std.proofs.Common.{◌≡◌, ◌≢◌, ◌∙◌, sym, ℕ, suc, ◌+◌, ◌<◌, ◌≤◌, ◌⊎◌, inl, inr, List, [], ◌∷◌, length, take, get_or, map, ap, refl, arith, Ordering, Less, Equal, Greater, false, Bool, Contains, IsPermutation, IsSorted, sum_by, nat_cmp, is_lt, get_or-take, length-take}
+use Rattle.proto_compile.proofs.Common.{◌≡◌, ◌≢◌, ◌∙◌, sym, ℕ, suc, ◌+◌, ◌<◌, ◌≤◌, ◌⊎◌, inl, inr, List, [], ◌∷◌, length, take, get_or, map, ap, refl, arith, Ordering, Less, Equal, Greater, false, Bool, Contains, IsPermutation, IsSorted, sum_by, nat_cmp, is_lt, get_or-take, length-take, slice_cmp, get_or_default, get_or-map, length-map, Contains-permutation, IsPermutation-map, IsPermutation-sym, sorted_far, sum_by-IsPermutation, get_or-le-sum_by, sum_by-cons, sum_by_more_le, NamesRise, not_less_itself, AreByName, name_at, Source}
 use Rattle.std.specs.Cmp.{IsStrictWeakOrder}
-use Rattle.std.specs.Cmp.Lexicographic.{slice_cmp}
 use Rattle.std.proofs.lemmas.Cmp.{nat_list_cmp_total, tied_itself}
-use Rattle.std.proofs.lemmas.List.{get_or_default, get_or-map, length-map}
 use Rattle.std.proofs.lemmas.List.MinMax.{ranks_by}
-use Rattle.std.proofs.lemmas.List.Sorted.{Contains-permutation, IsPermutation-map, IsPermutation-sym, sorted_far, sum_by-IsPermutation}
-use Rattle.std.proofs.lemmas.List.Sums.{get_or-le-sum_by, sum_by-cons, sum_by_more_le}
 use Rattle.std.proofs.lemmas.Map.Lookups.{exact_bytes}
-use Rattle.proto_base.specs.NameOrder.{NamesRise}
-use Rattle.proto_links.proofs.NameRows.{not_less_itself}
 use Rattle.proto_links.proofs.Rising.{IsStrict, Rises, one_rising, rest_rises}
-use Rattle.proto_compile.specs.Sources.{AreByName, name_at, name_of}
+use Rattle.proto_compile.specs.Sources.{name_of}
 use Rattle.proto_compile.specs.Faults.{AreSorted}
-use Rattle.proto_compile.specs.declared.source.Source.{Source}
 
 -- the first of a list that has one
 pub first_of : {X : Type 0} (xs : List X) (k : ℕ) → k < length xs → X

@@ -1,16 +1,11 @@
 -- The table of files.
-use Rattle.std.proofs.Common.{◌≡◌, sym, refl, ℕ, zero, suc, ◌<◌, ◌≤◌, Bool, List, [], ◌∷◌, ◌++◌, map, length, get_or, Option, Some, None, arith, String, Vec, string_bytes, string_eq, position, MatchOption, slice_get, Global}
+use Rattle.proto_compile.proofs.Common.{◌≡◌, sym, refl, ℕ, zero, suc, ◌<◌, ◌≤◌, Bool, List, [], ◌∷◌, ◌++◌, map, length, get_or, Option, Some, None, arith, String, Vec, string_bytes, string_eq, position, MatchOption, slice_get, Global, position_or_len, length-map, fails_before_first, IsNamed, bytes_at, file_name, compiled_file}
 use Rattle.std.specs.Str.{bytes_eq}
-use Rattle.std.specs.List.{position_or_len}
 use Rattle.std.specs.Map.{keys_of}
 use Rattle.std.proofs.lemmas.Bool.Decides.{nat_tests}
-use Rattle.std.proofs.lemmas.List.{length-map}
 use Rattle.std.proofs.lemmas.List.Quantifiers.{position-Some}
-use Rattle.std.proofs.lemmas.List.Sums.{fails_before_first}
 use Rattle.std.proofs.lemmas.Slice.Eq.{bytes_eq-Decides}
 use Rattle.indexmap.specs.IndexMap.{insert_entry}
-use Rattle.proto_compile.specs.Compilation.{IsNamed, bytes_at, file_name}
-use Rattle.proto_compile.specs.Steps.{compiled_file}
 
 abbrev Entry : Type 0
 Entry = String Global × Vec ℕ Global

@@ -1,12 +1,8 @@
 -- What files have in the set, by its length.
-use Rattle.std.proofs.Common.{ℕ, ◌<◌, ◌≤◌, Bool, not, List, length, arith, refl, Contains, filter, flat_map}
+use Rattle.proto_compile.proofs.Common.{ℕ, ◌<◌, ◌≤◌, Bool, not, List, length, arith, refl, Contains, filter, flat_map, get_or-le-sum_by, count_of, reach_of, bytes_field, Compilation, bytes_at, set_of}
 use Rattle.std.proofs.lemmas.List.Concat.{length-flat_map}
 use Rattle.std.proofs.lemmas.List.Filters.{sum_by-filter_both}
-use Rattle.std.proofs.lemmas.List.Sums.{get_or-le-sum_by}
-use Rattle.proto_links.specs.Linked.{count_of, reach_of}
 use Rattle.proto_links.proofs.Whole.{whole_of}
-use Rattle.wire_format.specs.Field.{bytes_field}
-use Rattle.proto_compile.specs.Compilation.{Compilation, bytes_at, set_of}
 use Rattle.proto_compile.specs.Sound.{IsOfSources}
 
 -- one of many

@@ -1,25 +1,10 @@
 -- What the loops keep that find the files of imports, and what is wrong with imports.
-use Rattle.std.proofs.Common.{length-append, ◌≡◌, ◌∙◌, sym, ℕ, ◌+◌, ◌<◌, List, [], ◌∷◌, ◌++◌, length, map, take, get_or, subst, arith, inl, inr, ◌⊎◌, Vec, Global, Bool, true, false, Contains, ◌↔◌, IsTrue, Option, Some, None}
-use Rattle.std.proofs.lemmas.Bool.{cases_lt, cases_eq}
-use Rattle.std.proofs.lemmas.Grind.{common_steps}
-use Rattle.std.proofs.lemmas.List.{get_or-map}
-use Rattle.std.proofs.lemmas.List.Elements.{Contains-push, Contains-push_cases, Contains-append_left}
-use Rattle.digraph.specs.Edges.{Graph, Edge, graph_of}
-use Rattle.digraph.proofs.Gathering.{below_more, joined_end, joined_more, joined_none}
-use Rattle.digraph.proofs.Rows.{edge_push}
-use Rattle.digraph.proofs.Visiting.{push_iff}
-use Rattle.proto_desc.specs.declared.file.FileDesc.{FileDesc}
+use Rattle.proto_links.proofs.Common.{length-append, ◌≡◌, ◌∙◌, sym, ℕ, ◌+◌, ◌<◌, List, [], ◌∷◌, ◌++◌, length, map, take, get_or, subst, arith, inl, inr, ◌⊎◌, Vec, Global, Bool, true, false, Contains, ◌↔◌, IsTrue, Option, Some, None, cases_lt, cases_eq, common_steps, get_or-map, Contains-push, Contains-push_cases, Contains-append_left, Graph, Edge, graph_of, below_more, joined_end, joined_more, joined_none, edge_push, push_iff, leads_turned, FileDesc, HasMissing, IsGraph, IsWrongAt, IsWrongIn, imports_of, imports_at, IsNamed, Targets, PublicTargets, Imports, ImportsPublicly, name_of, Reaches, IsWrong, missing, cyclic, IsBad, Leads, Kind, IsLeast, spot}
 use Rattle.proto_desc.specs.declared.file.ImportDesc.{ImportDesc}
-use Rattle.proto_links.specs.Graphs.{HasMissing, IsGraph, IsWrongAt, IsWrongIn}
-use Rattle.proto_links.specs.Imports.{imports_of, imports_at, IsNamed, Targets, PublicTargets, Imports, ImportsPublicly, name_of, Reaches, IsWrong, missing, cyclic, IsBad}
 use Rattle.proto_base.specs.NameOrder.{NamesRise}
 use Rattle.proto_links.proofs.NameRows.{named_once}
-use Rattle.digraph.specs.Leads.{Leads}
-use Rattle.digraph.proofs.Ways.{leads_map, leads_turned}
-use Rattle.proto_base.specs.declared.kind.Kind.{Kind}
 use Rattle.proto_base.specs.declared.kind.Kind.TheVariants as kind
 use Rattle.proto_base.specs.declared.place.Place.{Place}
-use Rattle.proto_base.specs.Least.{IsLeast, spot}
 use Rattle.proto_base.specs.Lesser.{IsLesser}
 use Rattle.proto_base.specs.declared.spot.Spot.{Spot}
 use Rattle.proto_base.proofs.Sets.{least_of, least_or, least_same, none_of}
@@ -167,10 +152,8 @@ module _ (files : List FileDesc) (a : ℕ) (xs : List ImportDesc) (i : ImportDes
 pub reaching_is : (files : List FileDesc) (g turned : Graph) (a : ℕ) → IsGraph files g
     → ((b c : ℕ) → Edge turned b c ↔ Edge g c b) → (b : ℕ) → Leads (Edge turned) b a ↔ Reaches files b a
 reaching_is files g turned a is flipped b = (
-  λ w. leads_map (Edge g) (Imports files) (λ x y. (is.edges x y).0) a b
-      (leads_turned (Edge turned) (Edge g) (λ x y. (flipped x y).0) b a w),
-  λ r. leads_turned (Edge g) (Edge turned) (λ x y. (flipped y x).1) a b
-      (leads_map (Imports files) (Edge g) (λ x y. (is.edges x y).1) a b r),
+  leads_turned (Edge turned) (Imports files) (λ x y edge. (is.edges y x).0 ((flipped x y).0 edge)) b a,
+  leads_turned (Imports files) (Edge turned) (λ x y i. (flipped y x).1 ((is.edges x y).1 i)) a b,
 )
 
 -- what a loop over files keeps

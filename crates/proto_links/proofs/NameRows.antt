@@ -1,14 +1,8 @@
 -- Names in the order of their bytes, rows of names that rise, and files in the order of their names.
-use Rattle.std.proofs.Common.{◌≡◌, ◌≢◌, ℕ, zero, suc, ◌+◌, ◌-◌, ◌<◌, List, [], length, get_or, subst, arith, Ordering, Less, Equal, nat_cmp, ◌∙◌, sym, ◌≤◌, ◌∷◌, Greater, map, ◌↔◌, IsSortedByKey}
-use Rattle.std.specs.Cmp.Lexicographic.{slice_cmp}
-use Rattle.std.proofs.lemmas.Bool.{cases_order}
+use Rattle.proto_links.proofs.Common.{◌≡◌, ◌≢◌, ℕ, ◌-◌, ◌<◌, List, [], length, get_or, subst, arith, Ordering, Less, Equal, nat_cmp, ◌∙◌, sym, ◌≤◌, ◌∷◌, Greater, map, ◌↔◌, IsSortedByKey, slice_cmp, cases_order, get_or-map, length-map, far, FileDesc, name_of, name_at, IsNamed}
 use Rattle.std.proofs.lemmas.Cmp.{nat_list_cmp_total, tied_itself}
 use Rattle.proto_base.specs.NameOrder.{NamesRise}
 use Rattle.std.proofs.lemmas.Map.Lookups.{exact_bytes}
-use Rattle.std.proofs.lemmas.List.{get_or-map, length-map}
-use Rattle.digraph.proofs.Visiting.{no_position}
-use Rattle.proto_desc.specs.declared.file.FileDesc.{FileDesc}
-use Rattle.proto_links.specs.Imports.{name_of, name_at, IsNamed}
 
 pub less_not_equal : (o : Ordering) → o ≡ Less → o ≡ Equal → ⊥
 less_not_equal o h k = cc
@@ -25,15 +19,9 @@ module _ (names : List (List ℕ)) (rise : NamesRise names) where
   abbrev name : ℕ → List ℕ
   name i = get_or names i []
 
-  apart_by : (i d : ℕ) → i + suc d < length names → slice_cmp nat_cmp (name i) (name (i + suc d)) ≡ Less
-  apart_by i zero h = rise i h
-  apart_by i (suc d) h = grind (arith, nat_list_cmp_total, apart_by i d (omega arith))
-
   -- any two of them
   pub rise_far : (i j : ℕ) → i < j → j < length names → slice_cmp nat_cmp (name i) (name j) ≡ Less
-  rise_far i j less h =
-      let split : i + suc (j - i - 1) ≡ j = omega arith in
-      subst (λ k. slice_cmp nat_cmp (name i) (name k) ≡ Less) split (apart_by i (j - i - 1) (omega arith))
+  rise_far = far (λ x y. slice_cmp nat_cmp x y ≡ Less) nat_list_cmp_total.trans names [] rise
 
   -- no name comes back
   pub names_differ : (i j : ℕ) → i < j → j < length names → name i ≢ name j
@@ -68,14 +56,14 @@ pair_names files n f g some h ef eg = grind (arith, name_is)
 
 pub found_name : (files : List FileDesc) (k : ℕ) (name : List ℕ) → k < length files
     → ((d : FileDesc) → slice_cmp nat_cmp (name_of (get_or files k d)) name ≡ Equal) → IsNamed files name k
-found_name [] k name h found = absurd (no_position k h)
+found_name [] k name h found = absurd (omega arith)
 found_name (f ∷ fs) k name h found = (h, name_is (f ∷ fs) k f h ∙ exact_bytes _ _ (found f))
 
 pub no_name : (files : List FileDesc) (at : ℕ) (name : List ℕ)
     → ((k : ℕ) (d : FileDesc) → 0 ≤ k → k < at → slice_cmp nat_cmp (name_of (get_or files k d)) name ≡ Less)
     → ((k : ℕ) (d : FileDesc) → at ≤ k → k < length files
     → slice_cmp nat_cmp (name_of (get_or files k d)) name ≡ Greater) → (b : ℕ) → IsNamed files name b → ⊥
-no_name [] at name left right b (h, same) = no_position b h
+no_name [] at name left right b (h, same) = omega arith
 no_name (f ∷ fs) at name left right b (h, same) =
     let equal = equal_itself (name_of (get_or (f ∷ fs) b f)) name (sym (name_is (f ∷ fs) b f h) ∙ same) in
     grind (arith, left b f, right b f)

@@ -1,35 +1,86 @@
--- Files by their positions in set order, and what lists of positions say of files.
-use Rattle.std.proofs.Common.{rules, ◌≡◌, ℕ, ◌<◌, [], length, get_or, zero-add, refl, ◌+◌, List, map, arith, inl, inr, Vec, Global, Contains, ◌↔◌, IsTrue, ◌==◌, eqb-true}
-use Rattle.std.proofs.lemmas.List.Elements.{Contains-get_or}
-use Rattle.std.proofs.lemmas.List.{get_or-map, get_or_default, length-map}
+-- What files reach and see, when none of their imports is bad, and what lists of their positions say of them.
+use Rattle.proto_links.proofs.Common.{◌≡◌, ℕ, ◌<◌, List, length, refl, subst, arith, inl, inr, ◌⊎◌, Contains, ◌↔◌, rules, [], get_or, zero-add, ◌+◌, map, Vec, Global, IsTrue, ◌==◌, eqb-true, Graph, Edge, IsFalling, IsWithin, graph_of, Leads, here, through, leads_map, leads_last, joined_two, length_graph, leads_le, edge_below, FileDesc, Kind, IsGraph, HasMissing, IsPublicGraph, Imports, ImportsPublicly, Reaches, NoneBad, IsWrong, missing, cyclic, imports_at, Contains-get_or, get_or-map, get_or_default, length-map, reach_of, sees, AreLinked, IsReach, common_steps}
+use Rattle.digraph.specs.Reaches.{HasNoCycle, IsReach as IsReachList}
+use Rattle.digraph.specs.Ranks.{rank_in, IsRanked}
+use Rattle.proto_desc.specs.declared.file.ImportDesc.{ImportDesc}
+use Rattle.proto_links.specs.Visible.{Sees, itself, imported, re_exported}
 use Rattle.std.proofs.lemmas.List.FromFn.{get_or-map-range_with_len}
 use Rattle.bit_matrix.specs.Bits.{has as is_set, Bits}
 use Rattle.bit_matrix.specs.Changes.{columns_of, Has}
 use Rattle.proto_links.specs.Layout.{linked, list_at, IsLaidOut}
-use Rattle.proto_links.specs.Linked.{reach_of, sees, AreLinked, IsReach}
 use Rattle.proto_links.specs.declared.links.Links.TheInside.{Inside}
 use Rattle.std.specs.Set.{is_member}
 use Rattle.std.specs.Cmp.{nat_eq_equiv}
-use Rattle.std.proofs.lemmas.Grind.{common_steps}
 use Rattle.std.proofs.lemmas.Map.Views.{Contains-from_any, list_any-from_Contains}
-use Rattle.digraph.specs.Edges.{Graph, Edge, IsFalling, IsWithin, graph_of}
-use Rattle.digraph.specs.Leads.{Leads, here, through}
-use Rattle.digraph.specs.Reaches.{IsReach as IsReachList}
-use Rattle.digraph.specs.Ranks.{rank_in}
 use Rattle.digraph.specs.Renumbered.{IsRenumbered, node_at}
 use Rattle.digraph.specs.declared.ranks.Ranking.{Ranking}
-use Rattle.digraph.proofs.Gathering.{joined_two}
-use Rattle.digraph.proofs.Renumbering.{before_far, map_members, renumbered_falls, ways_to, ways_from}
-use Rattle.digraph.proofs.Rows.{length_graph}
-use Rattle.digraph.proofs.Ways.{leads_map, leads_le}
-use Rattle.proto_desc.specs.declared.file.FileDesc.{FileDesc}
-use Rattle.proto_links.specs.Graphs.{IsGraph, IsPublicGraph}
-use Rattle.proto_links.specs.Imports.{Imports, ImportsPublicly}
+use Rattle.digraph.proofs.Renumbering.{before_far, map_members, renumbered_falls}
 use Rattle.proto_links.specs.Positioned.{ArePositioned, AreFilesReached, AreFilesSeen, AreRanked, import_rows}
-use Rattle.proto_links.specs.Visible.{Sees}
 use Rattle.proto_links.specs.declared.graph.Graph.{Graph as ImportGraph}
 use Rattle.proto_links.specs.declared.positioned.Positioned.{Positioned}
-use Rattle.proto_links.proofs.Reaching.{public_imports, leads_inside, SeesBy, sees_is}
+
+-- ---- what imports lead to
+
+pub public_imports : (files : List FileDesc) (a b : ℕ) → ImportsPublicly files a b → Imports files a b
+public_imports files a b (i, w, p, n) = (i, w, n)
+
+pub leads_inside : (files : List FileDesc) (c a : ℕ) → a < length files → Leads (Imports files) c a → c < length files
+leads_inside files c _ h here = h
+leads_inside files c _ h (through a b i more) = leads_inside files c b i.2.0 more
+
+-- where no import is cyclic, no import leads back
+no_way_back : (files : List FileDesc) (a d : ℕ) → NoneBad files → Imports files a d → Reaches files d a → ⊥
+no_way_back files a d none (i, w, n) r = none a i.place _ (i, w, refl, cyclic d n r)
+
+-- ---- what a file sees
+
+-- itself, and what its imports lead to by public imports
+abbrev pub SeesBy : List FileDesc → ℕ → ℕ → Type 0
+SeesBy files a b = (a ≡ b) ⊎ ((d : ℕ) × Imports files a d × Leads (ImportsPublicly files) b d)
+
+module _ (files : List FileDesc) (none : NoneBad files) (a : ℕ) where
+  sees_to : (b : ℕ) → Sees files a b → SeesBy files a b
+  sees_to _ itself = inl refl
+  sees_to _ (imported b i) = inr (b, i, here)
+  sees_to _ (re_exported b c s other p) = let seen = sees_to b s in grind (arith, leads_last)
+
+  -- an import leads to no file that imports it, so what it leads to is seen
+  sees_on : (d b e : ℕ) → Imports files a d → Reaches files d e → Sees files a e → Leads (ImportsPublicly files) b e
+      → Sees files a b
+  sees_on d b _ i r s here = s
+  sees_on d b _ i r s (through e f p more) =
+      sees_on d b f i (leads_last (Imports files) e f d r (public_imports files e f p))
+      (re_exported e f s (λ same. no_way_back files a d none i (subst (Reaches files d) same r)) p) more
+
+  pub sees_is : (b : ℕ) → SeesBy files a b ↔ Sees files a b
+  sees_is b = (
+    λ w. elim w [
+      | inl same ↦ subst (Sees files a) same itself
+      | inr (d, i, way) ↦ sees_on d b d i here (imported d i) way
+    ],
+    sees_to b,
+  )
+
+-- ---- files without a bad import
+
+module _ {files : List FileDesc} {g : Graph} {ranks : List ℕ} (is : IsGraph files g) (ranked : IsRanked g ranks) where
+  not_wrong : (a : ℕ) (i : ImportDesc) (k : Kind) → (HasMissing files (imports_at files a) → ⊥)
+      → Contains (imports_at files a) i → IsWrong files a i k → ⊥
+  not_wrong a i _ whole w (missing none) = whole (i, w, none)
+  not_wrong a i _ whole w (cyclic b n reach) =
+      let falls : (x y : ℕ) → Imports files x y → rank_in ranks y < rank_in ranks x =
+      λ x y step. ranked.above x y ((is.edges x y).1 step) in
+      omega (arith, falls a b (i, w, n), leads_le (Imports files) (rank_in ranks) falls a b reach)
+
+  pub none_bad : ((a : ℕ) → HasMissing files (imports_at files a) → ⊥) → NoneBad files
+  none_bad whole a p k (i, w, at, wrong) = not_wrong a i k (whole a) w wrong
+
+pub no_cycle : {files : List FileDesc} {g : Graph} → IsGraph files g → NoneBad files → HasNoCycle g
+no_cycle {files} {g} is none a b edge way = no_way_back files a b none ((is.edges a b).0 edge)
+    (leads_map (Edge g) (Imports files) (λ x. x) (λ x y. (is.edges x y).0) a b way)
+
+pub none_missing : (files : List FileDesc) → NoneBad files → (a : ℕ) → HasMissing files (imports_at files a) → ⊥
+none_missing files none a (i, w, n) = none a i.place _ (i, w, refl, missing n)
 
 module _ (inside : Inside) (a : ℕ) (h : a < length inside.positions.items) where
   pub reach_there : reach_of (linked inside) a ≡ list_at inside.reach (get_or inside.positions.items a 0)
@@ -61,10 +112,6 @@ file_at ranking = node_at ranking.order.items
 
 abbrev position_of : Positioned → ℕ → ℕ
 position_of positioned a = get_or positioned.positions.items a 0
-
-abbrev layout : Ranking → Positioned → List (List ℕ) → Bits → Inside
-layout ranking positioned reach seen =
-    record { ranking = ranking; positions = positioned.positions; reach = reach; seen = seen }
 
 -- ---- lists
 
@@ -101,24 +148,24 @@ module _ {files : List FileDesc} {graph : ImportGraph} {ranking : Ranking} {posi
 
   -- ---- ways between positions, and between files
 
-  edge_is : (a b : ℕ) → a < length files → b < length files
-      → Edge (import_rows positioned) (position_of positioned a) (position_of positioned b) ↔ Imports files a b
-  edge_is a b ha hb = joined_two
-      (rw (file_there a ha, file_there b hb) at (m.imports.edges (position_of positioned a) (position_of positioned b)
-      (omega (arith, position_below a ha, rows_size)) (omega (arith, position_below b hb, rows_size))))
-      (m.ranked.imports.edges a b)
+  edge_is : {g rows : Graph} → IsRenumbered g ranking.order.items rows → (a b : ℕ) → a < length files → b < length files
+      → Edge rows (position_of positioned a) (position_of positioned b) ↔ Edge g a b
+  edge_is r a b ha hb = rw (file_there a ha, file_there b hb) at (r.edges (position_of positioned a)
+      (position_of positioned b) (omega (arith, position_below a ha, rows_size))
+      (omega (arith, position_below b hb, rows_size)))
 
   way_is : {P : ℕ → ℕ → Type 0} {g rows : Graph} → IsRenumbered g ranking.order.items rows
       → ((a b : ℕ) → Edge g a b ↔ P a b) → length g ≡ length files → IsWithin g (length g) → (a c : ℕ)
       → a < length files → (Leads P c a → c < length files)
       → ((k : ℕ) × Leads (Edge rows) k (position_of positioned a) × (file_at ranking k ≡ c)) ↔ Leads P c a
   way_is {P = P} {g = g} {rows = rows} r edges size within a c h inside = (
-    λ (k, way, at). rw (file_there a h, at) at (leads_map (Edge g) P (λ x y. (edges x y).0) (file_at ranking k) _
-        (ways_to g ranking.order.items rows r k (position_of positioned a) way)),
+    λ (k, way, at). rw (file_there a h, at) at (leads_map (Edge rows) P (file_at ranking) (λ x y edge. (edges _ _).0
+        ((r.edges x y (omega (arith, edge_below rows x y edge, r.size)) (r.within x y edge)).0 edge)) k _ way),
     λ way. (
       position_of positioned c,
-      ways_from g _ _ rows m.positions (omega (arith, order_size m.ranked)) within r c a
-          (omega (arith, order_size m.ranked)) (leads_map P (Edge g) (λ x y. (edges x y).1) c a way),
+      leads_map P (Edge rows) (position_of positioned) (λ x y step. (
+          let edge = (edges x y).1 step in
+          (edge_is r x y (omega (arith, edge_below g x y edge)) (omega (arith, within x y edge))).1 edge)) c a way,
       file_there c (inside way),
     ),
   )
@@ -138,7 +185,7 @@ module _ {files : List FileDesc} {graph : ImportGraph} {ranking : Ranking} {posi
         ));
     rises = λ k more. (
         let next : k + 1 < length list = omega (arith, length-map list (file_at ranking)) in
-        let below = leads_le (import_rows positioned) _ _ rows_fall
+        let below = leads_le (Edge (import_rows positioned)) (λ x. x) rows_fall _ _
         ((is.members _).0 (Contains-get_or list (k + 1) 0 next)) in
         let far = before_far ranking.ranks.items ranking.order.items m.ranked.order (get_or list k 0)
         (get_or list (k + 1) 0) (is.rises k next) (omega (arith, position_below a h, rows_size)) in
@@ -179,14 +226,18 @@ module _ {files : List FileDesc} {graph : ImportGraph} {ranking : Ranking} {posi
                 let inside : file_at ranking k < length files = omega (arith, order_size m.ranked) in
                 inr (
                   file_at ranking k,
-                  (edge_is a (file_at ranking k) ha inside).0 (rw at edge),
+                  (m.ranked.imports.edges a _).0 ((edge_is m.imports a (file_at ranking k) ha inside).0 (rw at edge)),
                   (reached (file_at ranking k) b inside hb).0 (rw at v),
                 )
           ],
           λ by. joined.1 (elim by [
             | inl same ↦ inl ((reached a b ha hb).1 (rw same here))
             | inr (d, i, way) ↦
-                inr (position_of positioned d, (edge_is a d ha i.2.0).1 i, (reached d b i.2.0 hb).1 way)
+                inr (
+                  position_of positioned d,
+                  (edge_is m.imports a d ha i.2.0).1 ((m.ranked.imports.edges a d).1 i),
+                  (reached d b i.2.0 hb).1 way,
+                )
           ]),
         ) (sees_is files m.ranked.none_bad a b)
 
@@ -204,7 +255,7 @@ module _ {files : List FileDesc} {graph : ImportGraph} {ranking : Ranking} {posi
   ranks_size = omega (arith, order_size m.ranked)
 
   abbrev kept : Inside
-  kept = layout ranking positioned reach seen
+  kept = record { ranking = ranking; positions = positioned.positions; reach = reach; seen = seen }
 
   positions_size : length positioned.positions.items ≡ length files
   positions_size = omega (arith, order_size m.ranked)

@@ -1,6 +1,5 @@
 -- Lists that rise by one order and have the same members are the same.
-use Rattle.std.proofs.lemmas.Grind.{common_steps}
-use Rattle.std.proofs.Common.{◌≡◌, sym, ℕ, zero, suc, ◌+◌, ◌<◌, List, [], ◌∷◌, length, get_or, ap, refl, subst, arith, ◌⊎◌, Contains}
+use Rattle.proto_links.proofs.Common.{far, common_steps, ◌≡◌, sym, ℕ, zero, suc, ◌+◌, ◌<◌, List, [], ◌∷◌, length, get_or, ap, refl, subst, arith, ◌⊎◌, Contains}
 
 -- each comes before the next one
 abbrev pub Rises : {X : Type 0} → (X → X → Type 0) → List X → Type 0
@@ -34,16 +33,10 @@ next_behind x xs k d = let at : suc k + 1 ≡ suc (k + 1) = omega arith in ap (�
 pub rest_rises : {X : Type 0} (R : X → X → Type 0) (x : X) (xs : List X) → Rises R (x ∷ xs) → Rises R xs
 rest_rises R x xs up k d h = subst (R (get_or xs k d)) (next_behind x xs k d) (up (suc k) d (omega arith))
 
-pub first_two : {X : Type 0} (R : X → X → Type 0) (x y : X) (xs : List X) → Rises R (x ∷ y ∷ xs) → R x y
-first_two R x y xs up = up zero x (omega arith)
-
 pub first_before : {X : Type 0} (R : X → X → Type 0) → IsStrict R → (x : X) (xs : List X) → Rises R (x ∷ xs) → (z : X)
     → Contains xs z → R x z
-first_before R strict x [] up z w = absurd (none_in z w)
-first_before R strict x (y ∷ xs) up z w =
-    let cases = front_or_behind y xs z w in
-    let rest = first_before R strict y xs (rest_rises R x (y ∷ xs) up) z in
-    grind (arith, first_two R x y xs up, rest, strict.trans x y z)
+first_before R strict x xs up z (k, inside, is) =
+    rw is at (far R strict.trans (x ∷ xs) z (λ j. up j z) zero (suc k) (omega arith) (omega arith))
 
 -- ---- one list
 

@@ -1,15 +1,8 @@
 -- Files have one set order, and one first bad import.
-use Rattle.std.proofs.lemmas.Grind.{common_steps}
-use Rattle.std.proofs.Common.{◌≡◌, ℕ, zero, suc, ◌+◌, ◌<◌, ◌≤◌, List, length, refl, arith}
-use Rattle.std.proofs.lemmas.List.{get_or_default}
-use Rattle.std.proofs.lemmas.List.Elements.{Contains-get_or}
-use Rattle.proto_desc.specs.declared.file.FileDesc.{FileDesc}
-use Rattle.proto_base.specs.declared.kind.Kind.{Kind}
+use Rattle.proto_links.proofs.Common.{common_steps, ◌≡◌, ℕ, zero, suc, ◌+◌, ◌<◌, ◌≤◌, List, length, refl, arith, get_or_default, Contains-get_or, FileDesc, Kind, spot, Linked, AreLinked, AreRanks, IsBefore, IsInSetOrder, rank_of}
 use Rattle.proto_base.specs.declared.place.Place.{Place}
-use Rattle.proto_base.specs.Least.{spot}
 use Rattle.proto_base.proofs.Spots.{one_spot}
 use Rattle.proto_links.specs.Bad.{IsFirstBad}
-use Rattle.proto_links.specs.Linked.{Linked, AreLinked, AreRanks, IsBefore, IsInSetOrder, rank_of}
 use Rattle.proto_links.proofs.Rising.{IsStrict, Rises, one_rising}
 
 -- ---- ranks

@@ -1,37 +1,14 @@
 -- What the links of any files reach.
-use Rattle.std.proofs.lemmas.Grind.{common_steps}
-use Rattle.std.proofs.Common.{ne_eqb, get_or, ◌≡◌, sym, ℕ, ◌<◌, Bool, true, false, List, [], ◌∷◌, refl, arith, Contains, filter, ◌==◌, cond, ◌↔◌, true≢false}
+use Rattle.std.proofs.lemmas.List.Kept.{AllPairs-filter}
+use Rattle.proto_links.proofs.Common.{cond_both, ◌+◌, ◌≡◌, sym, ℕ, ◌<◌, Bool, true, List, [], ◌∷◌, arith, Contains, filter, ◌==◌, ◌↔◌, All-contains, All-contains_itself, All-filter, filter_passes, here, leads_trans, far, once, few, many, FileDesc, Imports, IsReach, Linked, AreLinked, IsBefore, count_of, rank_of, reach_of}
 use Rattle.std.specs.Set.{is_member}
 use Rattle.std.specs.List.{IsDistinct}
-use Rattle.std.proofs.lemmas.Map.Steps.{length-le_from_distinct_below, le-length_from_below}
-use Rattle.std.proofs.lemmas.List.Elements.{recursion_from_All, Contains-get_or, All-contains, All-contains_itself, All-filter, filter_passes}
-use Rattle.digraph.specs.Leads.{here}
-use Rattle.digraph.proofs.Ways.{leads_trans}
-use Rattle.proto_desc.specs.declared.file.FileDesc.{FileDesc}
-use Rattle.proto_links.specs.Imports.{Imports}
-use Rattle.proto_links.specs.Linked.{IsReach, Linked, AreLinked, IsBefore, count_of, rank_of, reach_of}
 use Rattle.proto_links.specs.Whole.{AreReachesWhole}
-use Rattle.proto_links.proofs.Positions.{has_is}
-use Rattle.proto_links.proofs.Reaching.{leads_inside}
-use Rattle.proto_links.proofs.Rising.{IsStrict, Rises, behind, first_before, front, front_or_behind, next_behind, none_in, one_rising, rest_rises}
+use Rattle.proto_links.proofs.Positions.{has_is, leads_inside}
+use Rattle.proto_links.proofs.Rising.{IsStrict, Rises, behind, front, front_or_behind, none_in, one_rising}
 use Rattle.proto_links.proofs.Unique.{before_strict, order_rises}
 
 -- ---- lists that rise
-
-pub once_of : (R : ℕ → ℕ → Type 0) → IsStrict R → (xs : List ℕ) → Rises R xs → IsDistinct ◌==◌ xs
-unfolding IsDistinct
-once_of R strict [] up = tt
-once_of R strict (x ∷ xs) up = (
-  recursion_from_All (λ y. x == y ≡ false) xs (λ k d h. (
-      let before = first_before R strict x xs up (get_or xs k d) (Contains-get_or xs k d h) in
-      ne_eqb x (get_or xs k d) (λ same. strict.never x (rw (sym same) at before)))),
-  once_of R strict xs (rest_rises R x xs up),
-)
-
--- what comes before all members of a list that rises comes in front of it
-rises_behind : {X : Type 0} (R : X → X → Type 0) (x : X) (xs : List X) → ((z : X) → Contains xs z → R x z) → Rises R xs
-    → Rises R (x ∷ xs)
-rises_behind R x xs before up k d h = grind (arith, common_steps, front, next_behind)
 
 -- a member of what a test keeps is a member that passes it, and the other way round
 pub kept_to : (p : ℕ → Bool) (xs : List ℕ) (z : ℕ) → Contains (filter p xs) z → Contains xs z × (p z ≡ true)
@@ -40,22 +17,17 @@ kept_to p xs z w = (
   All-contains (λ y. p y ≡ true) (filter p xs) z (filter_passes p xs) w,
 )
 
-kept_back : (p : ℕ → Bool) (x : ℕ) (xs : List ℕ) (z : ℕ) (b : Bool) → p x ≡ b
-    → (Contains xs z → Contains (filter p xs) z) → p z ≡ true → Contains (x ∷ xs) z
-    → Contains (cond b (x ∷ filter p xs) (filter p xs)) z
-kept_back p x xs z false e rest passes w = grind (arith, front_or_behind, true≢false)
-kept_back p x xs z true e rest passes w = grind (arith, behind, front, front_or_behind)
-
 pub kept_from : (p : ℕ → Bool) (xs : List ℕ) (z : ℕ) → p z ≡ true → Contains xs z → Contains (filter p xs) z
 kept_from p [] z passes w = absurd (none_in z w)
-kept_from p (x ∷ xs) z passes w = kept_back p x xs z (p x) refl (kept_from p xs z passes) passes w
+kept_from p (x ∷ xs) z passes w =
+    let rest = kept_from p xs z passes in
+    let cases = front_or_behind x xs z w in
+    cond_both (p x) (x ∷ filter p xs) (filter p xs) (λ ys. Contains ys z)
+    (λ e. grind (arith, behind, front, cases, rest)) (λ e. grind (arith, cases, rest))
 
 pub kept_rises : (R : ℕ → ℕ → Type 0) → IsStrict R → (p : ℕ → Bool) (xs : List ℕ) → Rises R xs → Rises R (filter p xs)
-kept_rises R strict p [] up = up
-kept_rises R strict p (x ∷ xs) up =
-    let rest = kept_rises R strict p xs (rest_rises R x xs up) in
-    let led = rises_behind R x (filter p xs) (λ z w. first_before R strict x xs up z (kept_to p xs z w).0) rest in
-    grind arith
+kept_rises R strict p xs up k d h = AllPairs-filter R p xs
+    (λ i j e less inside. far R strict.trans xs e (λ n. up n e) i j less inside) k (k + 1) d (omega arith) h
 
 -- ---- the links of files
 
@@ -70,13 +42,13 @@ whole_of files links is =
     λ a b h w. omega (arith, leads_inside files b a (omega arith) (((at a h).members b).0 w)) in
     let every : (a : ℕ) → Contains links.set_order a ↔ (a < count_of links) =
     λ a. rw (sym is.count) at (is.order.every a) in
-    let each : IsDistinct ◌==◌ links.set_order = once_of R strict links.set_order order in
+    let each : IsDistinct ◌==◌ links.set_order = once R strict.trans strict.never links.set_order is.order.rises in
     record {
       within = within;
       itself = λ a h. ((at a h).members a).1 here;
       closed = λ a b c h w v. ((at a h).members c).1 (leads_trans (Imports files) b c a
           (((at a h).members b).0 w) (((at b (within a b h w)).members c).0 v));
-      once = λ a h. once_of R strict (reach_of links a) (order_rises rank (reach_of links a) (at a h).rises);
+      once = λ a h. once R strict.trans strict.never (reach_of links a) (at a h).rises;
       part = λ a h. (
           let test = is_member ◌==◌ (reach_of links a) in
           one_rising R strict (reach_of links a) (filter test links.set_order)
@@ -88,9 +60,7 @@ whole_of files links is =
       each_once = each;
       size = omega (
         arith,
-        length-le_from_distinct_below links.set_order (count_of links) each
-            (λ q w. (every q).0 ((has_is q links.set_order).0 w)),
-        le-length_from_below links.set_order (count_of links)
-            (λ q h. (has_is q links.set_order).1 ((every q).1 h)),
+        few links.set_order (count_of links) each (λ q. (every q).0),
+        many links.set_order (count_of links) (λ q. (every q).1),
       );
     }

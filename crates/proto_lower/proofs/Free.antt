@@ -1,23 +1,14 @@
 -- Names that are not taken.
-use Rattle.std.proofs.Common.{◌≡◌, ◌≤◌, ◌<◌, ◌+◌, ℕ, zero, suc, Bool, true, false, cond, List, [], ◌∷◌, ◌++◌, sym, refl, length, arith, subst}
-use Rattle.std.specs.Prelude.{if◌then◌else◌, ◌||◌, String}
-use Rattle.std.specs.List.{prefix_len, range_with_len}
+use Rattle.proto_lower.proofs.Common.{◌≡◌, ◌≤◌, ◌<◌, ◌+◌, ℕ, zero, suc, Bool, true, false, cond, List, [], ◌∷◌, ◌++◌, sym, refl, length, arith, subst, if◌then◌else◌, ◌||◌, String, prefix_len, range_with_len, bytes_eq, BTreeSet, contains_text, nat_cmp, list_any-append, nat_tests, first_free, with_underscore, behind_letters, begins_as_made, HoldsTaken}
 use Rattle.std.specs.Set.{is_member}
-use Rattle.std.specs.Str.{bytes_eq}
 use Rattle.std.specs.BTreeSet as sorted
-use Rattle.std.specs.BTreeSet.{BTreeSet, contains_text}
 use Rattle.std.specs.declared.alloc.Global.{Global}
 use Rattle.std.specs.String.{string_bytes, string_cmp}
-use Rattle.std.specs.Ordering.{nat_cmp}
 use Rattle.std.specs.Cmp.Lexicographic.{slice_cmp}
 use Rattle.std.specs.Bool.{nat_le}
-use Rattle.std.proofs.lemmas.List.Folds.{list_any-append}
 use Rattle.std.proofs.lemmas.Map.Text.{btree_set_updates_text}
-use Rattle.std.proofs.lemmas.Bool.Decides.{nat_tests}
 use Rattle.std.proofs.lemmas.Slice.Eq.{bytes_eq-Decides}
 use Rattle.std.proofs.Math.Bool.{or-false}
-use Rattle.proto_lower.specs.Names.{first_free, with_underscore, behind_letters}
-use Rattle.proto_lower.specs.Taken.{begins_as_made, HoldsTaken}
 
 -- one more name
 pub or_by : (a b : Bool) → cond a true b ≡ (b || a)

@@ -1,3 +1,4 @@
+mod Common
 pub mod Nested
 mod NoneMade
 mod Raised

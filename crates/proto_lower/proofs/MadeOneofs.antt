@@ -1,13 +1,8 @@
 -- The oneofs that `optional` fields make.
-use Rattle.std.proofs.Common.{◌≡◌, ◌∙◌, ap, sym, refl, ◌+◌, ◌++◌, ℕ, zero, suc, Bool, true, false, List, [], ◌∷◌, length, take, arith, append_assoc}
+use Rattle.proto_lower.proofs.Common.{◌≡◌, ◌∙◌, ap, sym, refl, ◌+◌, ◌++◌, ℕ, zero, suc, Bool, true, false, List, [], ◌∷◌, length, take, arith, append_assoc, append-nil, Some, slice_get, count_by, cond, FieldDesc, OneofDesc, names_of_oneofs, made_named, with_one, with_made}
 use Rattle.std.proofs.Math.ListN.{length-append}
 use Rattle.std.proofs.Math.Seq.{take-append_seam}
-use Rattle.std.proofs.lemmas.List.{append-nil}
 use Rattle.std.proofs.lemmas.List.Sums.{sum_by-cons}
-use Rattle.std.specs.Prelude.{Some, slice_get, count_by, cond}
-use Rattle.proto_desc.specs.declared.field.FieldDesc.{FieldDesc}
-use Rattle.proto_desc.specs.declared.oneof.OneofDesc.{OneofDesc}
-use Rattle.proto_lower.specs.Oneofs.{names_of_oneofs, made_named, with_one, with_made}
 
 -- how many oneofs fields make
 abbrev pub made_count : List FieldDesc → ℕ

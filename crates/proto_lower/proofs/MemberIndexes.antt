@@ -1,19 +1,10 @@
 -- The members of the oneofs of the source.
-use Rattle.std.proofs.lemmas.Bool.Decides.{nat_tests}
-use Rattle.std.proofs.Common.{◌≡◌, refl, ◌<◌, ◌+◌, ◌++◌, ℕ, zero, suc, false, List, [], ◌∷◌, length, arith}
-use Rattle.std.specs.Prelude.{◌==◌, Some, flat_map, slice_get}
-use Rattle.std.proofs.lemmas.List.{append-nil, length-map}
+use Rattle.proto_lower.proofs.Common.{nat_tests, ◌≡◌, refl, ◌<◌, ◌+◌, ◌++◌, ℕ, zero, suc, false, List, [], ◌∷◌, length, arith, ◌==◌, Some, flat_map, slice_get, append-nil, length-map, MessageItem, FieldDesc, is_optional, real_count, fields_from, message_oneof, fields_in, real_named, real_oneofs}
 use Rattle.std.proofs.lemmas.Option.{slice_get_within, slice_get-map}
-use Rattle.proto_tree.specs.declared.message.MessageItem.{MessageItem}
 use Rattle.proto_tree.specs.declared.message.MessageItem as message_item
 use Rattle.proto_tree.specs.declared.oneof.Oneof.{Oneof}
 use Rattle.proto_tree.specs.declared.oneof.OneofItem.{OneofItem}
 use Rattle.proto_tree.specs.declared.oneof.OneofItem.TheVariants as oneof_item
-use Rattle.proto_desc.specs.declared.field.FieldDesc.{FieldDesc}
-use Rattle.proto_lower.specs.Fields.{is_optional, real_count, fields_from}
-use Rattle.proto_options.specs.Statements.{message_oneof}
-use Rattle.proto_lower.specs.Laws.{fields_in}
-use Rattle.proto_lower.specs.Oneofs.{real_named, real_oneofs}
 use Rattle.proto_lower.proofs.OneofIndexes.{made_by, members}
 
 -- the oneofs of the source, lowered

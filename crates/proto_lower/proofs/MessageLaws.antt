@@ -1,14 +1,8 @@
 -- The oneofs of the lowered form of a message.
-use Rattle.std.proofs.Common.{◌≡◌, ◌∙◌, ap, ℕ, List, [], ◌∷◌, length, arith}
-use Rattle.std.specs.Prelude.{Some, slice_get}
+use Rattle.proto_lower.proofs.Common.{◌≡◌, ◌∙◌, ap, ℕ, List, [], ◌∷◌, length, arith, Some, slice_get, FieldDesc, inner, real_count, source_oneofs, fields_of, oneofs_of, fields_in, IsOptionalBehind, index_behind, names_before, all_fields, lowered_message, real_named, real_oneofs, made_named, names_of_fields, with_made}
 use Rattle.proto_tree.specs.declared.message.Message.{Message}
 use Rattle.proto_tree.specs.declared.oneof.Oneof.{Oneof}
-use Rattle.proto_desc.specs.declared.field.FieldDesc.{FieldDesc}
 use Rattle.proto_desc.specs.declared.message.MessageDesc.TheViews.{out-roll-MessageDesc}
-use Rattle.proto_lower.specs.Fields.{inner, real_count}
-use Rattle.proto_lower.specs.Laws.{source_oneofs, fields_of, oneofs_of, fields_in, IsOptionalBehind, index_behind, names_before}
-use Rattle.proto_lower.specs.Messages.{all_fields, lowered_message}
-use Rattle.proto_lower.specs.Oneofs.{real_named, real_oneofs, made_named, names_of_fields, with_made}
 use Rattle.proto_lower.proofs.MadeOneofs.{made_count, length-with_made, slice_get-with_made, with_made-start, get_start}
 use Rattle.proto_lower.proofs.MemberIndexes.{slice_get-real_oneofs, length-real_oneofs, members-all}
 use Rattle.proto_lower.proofs.OneofIndexes.{members, AllIndexed, fields-indexed, optional-index, sole-member}

@@ -1,15 +1,10 @@
 -- The nested messages that a message gives as a statement.
-use Rattle.std.proofs.Common.{arith, ◌≡◌, ◌∙◌, ap, sym, refl, List, [], ◌∷◌, ◌++◌, ℕ, ◌+◌, ◌<◌, length, take, get_or, append_assoc}
-use Rattle.std.proofs.lemmas.List.{append-nil}
-use Rattle.std.specs.Prelude.{flat_map}
+use Rattle.proto_lower.proofs.Common.{arith, ◌≡◌, ◌∙◌, ap, sym, refl, List, [], ◌∷◌, ◌++◌, ℕ, ◌+◌, ◌<◌, length, take, get_or, append_assoc, append-nil, flat_map, Message', Row_of-MessageItem, end_of-MessageItem, more_of-MessageItem, Row_of-Message, end_of-Message, more_of-Message, items-the_row-MessageItem, items-the_row-Message, items_shown-the_row-MessageItem-0, items_hidden-the_row-Message-1, inner, message_of, nested_of, nested_row, lowered_message}
 use mathlib.Core.Former.{this, arity}
 use Rattle.proto_base.proofs.Among.{taken}
 use Rattle.proto_base.specs.formers.boxed.Boxed.{the_former}
 use Rattle.proto_tree.specs.declared.message.Message.{Message}
-use Rattle.proto_tree.specs.declared.message.MessageItem.{Message', Row_of-MessageItem, end_of-MessageItem, more_of-MessageItem, Row_of-Message, end_of-Message, more_of-Message, items-the_row-MessageItem, items-the_row-Message, items_shown-the_row-MessageItem-0, items_hidden-the_row-Message-1}
 use Rattle.proto_tree.specs.declared.message.MessageItem.TheVariants as of
-use Rattle.proto_lower.specs.Fields.{inner}
-use Rattle.proto_lower.specs.Messages.{message_of, nested_of, nested_row, lowered_message}
 use Rattle.proto_options.proofs.Rows.{row_of}
 
 row_flat : (full : List ℕ) (n : _) (row : Row_of-MessageItem n)

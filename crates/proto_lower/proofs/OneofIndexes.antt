@@ -1,15 +1,9 @@
 -- The indexes of the oneofs of fields.
-use Rattle.std.proofs.Common.{◌≡◌, refl, ◌≤◌, ◌<◌, ◌+◌, ◌++◌, ℕ, Bool, true, false, List, [], ◌∷◌, map, arith}
-use Rattle.std.specs.Prelude.{⊤, Option, Some, None, flat_map, cond}
-use Rattle.std.proofs.lemmas.Bool.Decides.{nat_tests}
-use Rattle.proto_tree.specs.declared.message.MessageItem.{MessageItem}
+use Rattle.proto_lower.proofs.Common.{◌≡◌, refl, ◌≤◌, ◌<◌, ◌+◌, ◌++◌, ℕ, Bool, true, false, List, [], ◌∷◌, map, arith, Option, Some, None, flat_map, cond, nat_tests, MessageItem, FieldDesc, is_optional, member_at, real_count, fields_from, has_index, fields_in, oneof_field}
+use Rattle.std.specs.Prelude.{⊤}
 use Rattle.proto_tree.specs.declared.message.MessageItem as message_item
 use Rattle.proto_tree.specs.declared.oneof.OneofItem.{OneofItem}
 use Rattle.proto_tree.specs.declared.oneof.OneofItem.TheVariants as oneof_item
-use Rattle.proto_desc.specs.declared.field.FieldDesc.{FieldDesc}
-use Rattle.proto_lower.specs.Fields.{is_optional, member_at, real_count, fields_from}
-use Rattle.proto_lower.specs.Laws.{has_index, fields_in}
-use Rattle.proto_options.specs.Statements.{oneof_field}
 use Rattle.proto_lower.proofs.MadeOneofs.{made_count, made_count-cons}
 
 -- the index of the oneof that a field makes, if it makes one, and how many it makes

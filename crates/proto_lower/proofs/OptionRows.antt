@@ -1,13 +1,11 @@
 -- What the rows of the table give is what its rules give.
-use Rattle.std.proofs.Common.{arith, ◌≡◌, ◌∙◌, [], ap, sym, ℕ, ◌≤◌, List, map, length, take, take_all}
-use Rattle.std.specs.Prelude.{flat_map}
-use Rattle.std.proofs.lemmas.List.Folds.{flat_map-map}
+use Rattle.proto_lower.proofs.Common.{arith, ◌≡◌, ◌∙◌, [], ap, sym, ℕ, ◌≤◌, List, map, length, take, take_all, flat_map, flat_map-map, option_under}
 use Rattle.proto_tree.specs.declared.option.Setting.{Setting}
 use Rattle.proto_desc.specs.declared.options.OptionDesc.{OptionDesc}
 use Rattle.proto_desc.specs.declared.rules.Element.{Element}
 use Rattle.proto_desc.specs.declared.rules.OptionRule.{OptionRule}
 use Rattle.proto_desc.specs.Rules.{rule_of, rules_of}
-use Rattle.proto_lower.specs.Options.{option_under, options_of}
+use Rattle.proto_lower.specs.Options.{options_of}
 
 -- what a row gives
 abbrev pub option_by_row : List Setting → OptionRule → List OptionDesc

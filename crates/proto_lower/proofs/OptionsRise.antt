@@ -1,7 +1,6 @@
 -- The options of an element rise by their number, as the rules do.
-use Rattle.std.proofs.Common.{◌≤◌, ◌<◌, ◌+◌, ◌++◌, ℕ, zero, suc, List, [], ◌∷◌, map, length, arith, add-one}
-use Rattle.std.specs.Prelude.{⊤, Option, Some, flat_map, slice_index}
-use Rattle.std.specs.Option.{option_to_list, option_map}
+use Rattle.proto_lower.proofs.Common.{◌≤◌, ◌<◌, ◌+◌, ◌++◌, ℕ, zero, suc, List, [], ◌∷◌, map, length, arith, add-one, Option, Some, flat_map, slice_index, option_to_list, option_map, option_at, option_by, option_under}
+use Rattle.std.specs.Prelude.{⊤}
 use Rattle.std.specs.List.Sorted.{IsStrictlyIncreasing}
 use Rattle.proto_tree.specs.declared.option.Setting.{Setting}
 use Rattle.proto_desc.specs.declared.options.OptionDesc.{OptionDesc}
@@ -9,7 +8,7 @@ use Rattle.proto_desc.specs.declared.options.OptionValue.{OptionValue}
 use Rattle.proto_desc.specs.declared.rules.Element.{Element}
 use Rattle.proto_desc.specs.declared.rules.ValueKind.{ValueKind}
 use Rattle.proto_desc.specs.Rules.{Rule, rules_of}
-use Rattle.proto_lower.specs.Options.{option_at, option_by, option_under, options_of}
+use Rattle.proto_lower.specs.Options.{options_of}
 
 -- each number is above the one before it, and the first at least `least`
 abbrev RisesFrom : (least : ℕ) → List ℕ → Type 0

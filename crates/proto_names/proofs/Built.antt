@@ -1,21 +1,10 @@
 -- What occurs in files: of which file it is, what a walk over them has put so far, and what is twice in another order.
-use Rattle.std.proofs.Common.{◌≤◌, ◌≡◌, ◌≢◌, ℕ, ◌+◌, ◌<◌, List, [], ◌∷◌, length, refl, arith, cond, ◌==◌, All, Contains, IsPermutation, Option, None, Some, slice_get, swap, ◌++◌, map, take, drop, get_or, append_assoc, length-append}
-use Rattle.std.proofs.lemmas.Bool.Decides.{nat_tests}
+use Rattle.proto_names.proofs.Common.{◌≤◌, ◌≡◌, ◌≢◌, ℕ, ◌+◌, ◌<◌, List, [], ◌∷◌, length, refl, arith, cond, ◌==◌, All, Contains, IsPermutation, Option, None, Some, slice_get, swap, ◌++◌, map, take, drop, get_or, append_assoc, length-append, nat_tests, All-append, All-contains, All-map, All-nil, Contains-permutation, IsPermutation-keeps, IsPermutation-sym, gets, slice_get_within, declared_by, Occurrence, IsTwice, declared_occurrence, package_occurrence, package_occurrences, occurrences_of, occurrences_from, occurrences, prefixes, common_steps, flat_map-append, drop-append_seam, take-add, take-append_seam, length-map, take-append-le, take_more, take-append-drop, ArePlaced, IsCollected, files_in, each_push, get_drop}
 use Rattle.std.proofs.lemmas.List.Edits.{length-swap, swapped_from_swap}
-use Rattle.std.proofs.lemmas.List.Elements.{All-append, All-contains, All-map, All-nil}
-use Rattle.std.proofs.lemmas.List.Sorted.{Contains-permutation, IsPermutation-keeps, IsPermutation-sym}
-use Rattle.std.proofs.lemmas.Option.{gets, slice_get_within}
-use Rattle.proto_desc.specs.DeclaredNames.{declared_by}
 use Rattle.proto_desc.specs.declared.file.FileDesc.{FileDesc}
 use Rattle.proto_desc.specs.declared.file.PackageDesc.{PackageDesc}
-use Rattle.proto_names.specs.Occurrences.{Occurrence, IsTwice, declared_occurrence, package_occurrence, package_occurrences, occurrences_of, occurrences_from, occurrences}
-use Rattle.proto_names.specs.Scopes.{prefixes}
-use Rattle.std.proofs.lemmas.Grind.{common_steps, flat_map-append}
-use Rattle.std.proofs.Math.Seq.{drop-append_seam, take-add, take-append_seam}
-use Rattle.std.proofs.lemmas.List.{length-map, take-append-le, take_more, take-append-drop, append-nil}
-use Rattle.proto_names.specs.Collected.{ArePlaced, IsCollected, files_in}
+use Rattle.std.proofs.lemmas.List.{append-nil}
 use Rattle.share_work.specs.Shares.{GivesItems}
-use Rattle.share_work.proofs.PieceRows.{each_push, get_drop}
 use Rattle.share_work.proofs.Together.{get_there}
 use Rattle.proto_names.specs.declared.part.Part.{Part}
 

@@ -1,4 +1,5 @@
 pub mod Built
+mod Common
 pub mod Starting
 pub mod Once
 pub mod Ordered

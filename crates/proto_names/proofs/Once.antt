@@ -1,19 +1,9 @@
 -- What occurs once: the full name of an element; and what is repeated, with the first of it.
-use Rattle.std.proofs.lemmas.Grind.{common_steps}
-use Rattle.std.proofs.Common.{◌≡◌, ℕ, List, ◌⊎◌, arith, refl, Some, slice_get, ap, ◌≢◌, Bool, ◌+◌, ◌-◌, ◌<◌, ◌≤◌, length, Contains, false, Option, None, IsSomeAnd, MatchOption}
-use Rattle.std.proofs.lemmas.Bool.{cases_eq, cases_lt}
-use Rattle.std.proofs.lemmas.List.Sorted.{IsPermutation-sym}
-use Rattle.std.proofs.lemmas.Option.{gets, get_or_from_slice_get, slice_get-get_or, slice_get_within}
+use Rattle.proto_names.proofs.Common.{common_steps, ◌≡◌, ℕ, List, ◌⊎◌, arith, refl, Some, slice_get, ap, ◌≢◌, Bool, ◌+◌, ◌-◌, ◌<◌, ◌≤◌, length, Contains, false, Option, None, IsSomeAnd, MatchOption, cases_eq, cases_lt, IsPermutation-sym, gets, get_or_from_slice_get, slice_get-get_or, slice_get_within, Index, Indexes, IsNoLater, IsPackage, NoneTwice, Occurrence, occurrences, IsTwice, AreInOrder, IsEarlierOf, NoLater, location_of, IsFirstOf, IsRun, Repeats, at, blank, Location}
 use Rattle.proto_desc.specs.declared.file.FileDesc.{FileDesc}
 use Rattle.proto_base.specs.declared.limits.Limits.{Limits}
-use Rattle.proto_names.specs.Index.{Index, Indexes}
 use Rattle.proto_names.specs.Repeated.{AreDeclaredOnce, IsFirstTwice}
-use Rattle.proto_names.specs.Occurrences.{IsNoLater, IsPackage, NoneTwice, Occurrence, occurrences, IsTwice}
 use Rattle.proto_names.proofs.Built.{twice_moved}
-use Rattle.proto_names.specs.Order.{AreInOrder, IsEarlierOf, NoLater, location_of}
-use Rattle.proto_names.specs.Shares.{IsFirstOf}
-use Rattle.proto_names.specs.Runs.{IsRun, Repeats, at, blank}
-use Rattle.proto_names.specs.declared.entry.Location.{Location}
 use Rattle.proto_names.proofs.Ordered.{places_in_order, names_between}
 
 -- ---- the full name of an element

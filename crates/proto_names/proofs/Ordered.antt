@@ -1,20 +1,7 @@
 -- The order of names by their hashes, then byte by byte, and occurrences in this order.
-use Rattle.std.proofs.lemmas.Grind.{common_steps}
-use Rattle.std.proofs.Common.{◌≡◌, ℕ, ◌<◌, ◌≤◌, List, length, arith, refl, inl, inr, ◌⊎◌, Ordering, Less, Equal, Greater, false, ◌-◌, Bool, nat_eq, [], ◌∷◌, ◌++◌, take, drop, get_or, ◌↔◌, IsTrue, take_all}
+use Rattle.proto_names.proofs.Common.{common_steps, ◌≡◌, ℕ, ◌<◌, ◌≤◌, List, length, arith, refl, inl, inr, ◌⊎◌, Ordering, Less, Equal, Greater, false, ◌-◌, Bool, nat_eq, [], ◌∷◌, ◌++◌, take, drop, get_or, ◌↔◌, IsTrue, take_all, slice_cmp, pointwise, bytes_decides, nat_cmp, is_eq, is_lt, ordering_index, ordering_then, nat_tests, ranks_by, sorted_far, exact_bytes, hash_of, Occurrence, IsNoLater, AreInHashOrder, AreInOrder, name_cmp, occurrence_cmp, at, blank, drop-append_seam, take-append_seam, scoped}
 use Rattle.std.specs.Cmp.{IsTotalOrder}
-use Rattle.std.specs.Cmp.Lexicographic.{slice_cmp, pointwise, bytes_decides}
-use Rattle.std.specs.Ordering.{nat_cmp, is_eq, is_lt, ordering_index, ordering_then}
-use Rattle.std.proofs.lemmas.Bool.Decides.{nat_tests}
 use Rattle.std.proofs.lemmas.Cmp.{nat_cmp_total, nat_list_cmp_total, then_total, on_total, tied_itself}
-use Rattle.std.proofs.lemmas.List.MinMax.{ranks_by}
-use Rattle.std.proofs.lemmas.List.Sorted.{sorted_far}
-use Rattle.std.proofs.lemmas.Map.Lookups.{exact_bytes}
-use Rattle.proto_names.specs.Hashes.{hash_of}
-use Rattle.proto_names.specs.Occurrences.{Occurrence, IsNoLater}
-use Rattle.proto_names.specs.Order.{AreInHashOrder, AreInOrder, name_cmp, occurrence_cmp}
-use Rattle.proto_names.specs.Runs.{at, blank}
-use Rattle.std.proofs.Math.Seq.{drop-append_seam, take-append_seam}
-use Rattle.proto_desc.specs.DeclaredNames.{scoped}
 
 -- ---- orderings
 

@@ -1,26 +1,13 @@
 -- Occurrences that are found by keys, and halving among occurrences in the order of their names.
-use Rattle.std.proofs.lemmas.Grind.{common_steps}
-use Rattle.std.proofs.Common.{◌≡◌, ◌∙◌, sym, ap, arith, ℕ, suc, ◌+◌, ◌<◌, ◌≤◌, List, [], ◌∷◌, ◌++◌, length, map, get_or, true, false, Bool, Ordering, IsSorted, ◌≢◌, ◌-◌, take, drop, Less, Equal, Contains, ◌↔◌}
+use Rattle.proto_names.proofs.Common.{common_steps, ◌≡◌, ◌∙◌, sym, ap, arith, ℕ, suc, ◌+◌, ◌<◌, ◌≤◌, List, [], ◌∷◌, ◌++◌, length, map, get_or, true, false, Bool, Ordering, IsSorted, ◌≢◌, ◌-◌, take, drop, Less, Equal, Contains, ◌↔◌, slice_cmp, nat_cmp, is_lt, is_eq, ordering_then, ordering_index, get_or-map, length-map, map_push, get_or-drop, get_or-take, get_or_default, length-take, All-push, hash_of, AreKeysAmong, AreKeysOf, IsKeyAmong, at_key, found_by, hash_in, key_cmp, part_at, Occurrence, AreInOrder, name_cmp, occurrence_cmp, AreInHashOrder, all_of, cases_lt, searchable_from_sorted, exact_bytes, name_of, at, blank}
 use Rattle.std.specs.Cmp.{IsTotalOrder}
 use Rattle.std.specs.List.Sorted.{IsPartitionedBy, IsPartitionPoint, IsNonDecreasingBy}
-use Rattle.std.specs.Cmp.Lexicographic.{slice_cmp}
-use Rattle.std.specs.Ordering.{nat_cmp, is_lt, ordering_then, is_eq, ordering_index}
 use Rattle.std.proofs.lemmas.Cmp.{nat_cmp_total, nat_list_cmp_total, on_total, then_total, tied_itself}
-use Rattle.std.proofs.lemmas.List.{get_or-map, length-map, map_push, get_or-drop, get_or-take, get_or_default, length-drop, length-take}
-use Rattle.std.proofs.lemmas.List.Elements.{All-push}
-use Rattle.proto_names.specs.Hashes.{hash_of}
-use Rattle.proto_names.specs.Keys.{AreKeysAmong, AreKeysOf, IsKeyAmong, at_key, found_by, hash_in, key_cmp, part_at}
-use Rattle.proto_names.specs.Occurrences.{Occurrence}
-use Rattle.proto_names.specs.Order.{AreInOrder, name_cmp, occurrence_cmp, AreInHashOrder}
-use Rattle.proto_names.specs.Shares.{all_of}
+use Rattle.std.proofs.lemmas.List.{length-drop}
 use Rattle.proto_names.proofs.Ordered.{then_then, equal_alike, name_total, order_tells, same_name}
-use Rattle.std.proofs.lemmas.Bool.{cases_lt, true≢false}
-use Rattle.std.proofs.lemmas.List.Sorted.{searchable_from_sorted}
-use Rattle.std.proofs.lemmas.Map.Lookups.{exact_bytes}
+use Rattle.std.proofs.lemmas.Bool.{true≢false}
 use Rattle.proto_links.proofs.NameRows.{equal_itself, less_not_equal}
 use Rattle.proto_names.specs.Starts.{IsStart, IsNowhere}
-use Rattle.proto_names.specs.Index.{name_of}
-use Rattle.proto_names.specs.Runs.{at, blank}
 
 -- ---- the keys of occurrences
 

@@ -1,26 +1,10 @@
 -- Hashes and their slots: where slots begin, and the slots of scopes as bits.
-use Rattle.std.proofs.lemmas.Grind.{common_steps}
-use Rattle.std.proofs.Common.{◌≡◌, ℕ, ◌+◌, ◌-◌, ◌*◌, ◌<◌, ◌≤◌, List, [], ◌∷◌, ◌++◌, length, take, get_or, append_assoc, arith, inl, inr, lit<, refl, IsTrue, replicate, is_lt}
+use Rattle.proto_names.proofs.Common.{common_steps, ◌≡◌, ℕ, ◌+◌, ◌-◌, ◌*◌, ◌<◌, ◌≤◌, List, [], ◌∷◌, ◌++◌, length, take, get_or, append_assoc, arith, inl, inr, lit<, refl, IsTrue, replicate, is_lt, get_or-append_right, cases_lt, get_or-replicate, length-replicate, take_more, Contains-push_cases, ranks_by, sorted_far, le-div, Bits, HasInserted, columns_of, hash_of, hash_step, name_of, Occurrence, AreInHashOrder, name_cmp, is_scope, at, blank, TellsScopes, tells}
 use Rattle.std.proofs.Math.ListN.{get_or-append}
 use Rattle.std.proofs.Math.Nat.{div-lt_iff_lt-mul, div-mul-le_self, mul-le-mul_right, mul-lt-mul_of_pos_right}
-use Rattle.std.proofs.Math.Seq.{get_or-append_right}
-use Rattle.std.proofs.lemmas.Bool.{cases_lt}
-use Rattle.std.proofs.lemmas.List.{get_or-replicate, length-append, length-replicate, take_more}
-use Rattle.std.proofs.lemmas.List.Elements.{Contains-push_cases}
-use Rattle.std.proofs.lemmas.List.MinMax.{ranks_by}
-use Rattle.std.proofs.lemmas.List.Sorted.{sorted_far}
+use Rattle.std.proofs.lemmas.List.{length-append}
 use Rattle.std.proofs.lemmas.List.Folds.{fold_along}
 use Rattle.std.proofs.lemmas.List.Sums.{fold-append}
-use Rattle.std.proofs.lemmas.Nat.{le-div}
-use Rattle.bit_matrix.specs.Bits.{Bits}
-use Rattle.bit_matrix.specs.Changes.{HasInserted, columns_of}
-use Rattle.proto_names.specs.Hashes.{hash_of, hash_step}
-use Rattle.proto_names.specs.Index.{name_of}
-use Rattle.proto_names.specs.Occurrences.{Occurrence}
-use Rattle.proto_names.specs.Order.{AreInHashOrder, name_cmp}
-use Rattle.proto_names.specs.Resolution.{is_scope}
-use Rattle.proto_names.specs.Runs.{at, blank}
-use Rattle.proto_names.specs.ScopeHashes.{TellsScopes, tells}
 use Rattle.proto_names.specs.Starts.{AreStarts, BeginsSlot, slot_at, slot_of}
 use Rattle.proto_names.proofs.Ordered.{first_not, name_total, not_below}
 

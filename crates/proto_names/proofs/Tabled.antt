@@ -1,24 +1,10 @@
 -- Occurrences in shares: together they are all, and what is twice is twice in one of them.
-use Rattle.std.proofs.lemmas.Grind.{common_steps}
-use Rattle.std.proofs.Common.{◌≡◌, ◌∙◌, refl, ℕ, zero, suc, ◌-◌, ◌<◌, Bool, true, not, List, [], ◌∷◌, ◌++◌, length, map, get_or, arith, ◌==◌, All, Contains, IsPermutation, MatchOption, Option, None, Some, filter, flat_map, slice_get}
-use Rattle.std.proofs.lemmas.Bool.Decides.{nat_tests}
-use Rattle.std.proofs.lemmas.List.{append-nil, length-map}
-use Rattle.std.proofs.lemmas.List.Elements.{All-filter, filter_passes}
-use Rattle.std.proofs.lemmas.List.Sorted.{All-permutation, IsPermutation-append, IsPermutation-filter_both, IsPermutation-refl, IsPermutation-sym, IsPermutation-trans}
-use Rattle.std.proofs.lemmas.Nat.{mod_below}
-use Rattle.std.proofs.lemmas.Option.{gets, same_Some, slice_get-map, slice_get_within}
-use Rattle.std.proofs.Math.Seq.{take-append_seam}
+use Rattle.proto_names.proofs.Common.{common_steps, ◌≡◌, ◌∙◌, refl, ℕ, zero, suc, ◌-◌, ◌<◌, Bool, true, not, List, [], ◌∷◌, ◌++◌, length, map, get_or, arith, ◌==◌, All, Contains, IsPermutation, MatchOption, Option, None, Some, filter, flat_map, slice_get, nat_tests, length-map, All-filter, filter_passes, All-permutation, IsPermutation-append, IsPermutation-filter_both, IsPermutation-refl, IsPermutation-sym, IsPermutation-trans, mod_below, gets, same_Some, slice_get-map, slice_get_within, take-append_seam, found_in, get_take, hash_of, services_of, Occurrence, IsNoLater, IsTwice, NoneTwice, NoLater, location_of, AreAllShares, AreInShares, AreSharesOf, IsEarliest, IsSortedOf, all_of, share_at, services_in, share_of, table_of, twice_of, Location}
+use Rattle.std.proofs.lemmas.List.{append-nil}
 use Rattle.share_work.specs.Shares.{GivesItems}
-use Rattle.share_work.proofs.PieceRows.{found_in, get_take}
 use Rattle.share_work.proofs.Sums.{in_flat, in_map, of_flat, of_map as of_mapped}
 use Rattle.share_work.proofs.Together.{get_there}
-use Rattle.proto_names.specs.Hashes.{hash_of}
-use Rattle.proto_names.specs.Index.{services_of}
-use Rattle.proto_names.specs.Occurrences.{Occurrence, IsNoLater, IsTwice, NoneTwice}
-use Rattle.proto_names.specs.Order.{NoLater, location_of}
 use Rattle.proto_names.specs.Repeated.{IsFirstTwice}
-use Rattle.proto_names.specs.Shares.{AreAllShares, AreInShares, AreSharesOf, IsEarliest, IsSortedOf, all_of, share_at, services_in, share_of, table_of, twice_of}
-use Rattle.proto_names.specs.declared.entry.Location.{Location}
 use Rattle.proto_names.specs.declared.share.Share.{Share}
 use Rattle.proto_names.specs.declared.sorted.SortedShare.{SortedShare}
 use Rattle.proto_names.proofs.Built.{twice_moved}

@@ -1,18 +1,8 @@
 -- What a spelled name means, in the scopes around it: one thing, and the same among the same occurrences that are seen.
-use Rattle.std.proofs.Common.{◌≡◌, ◌≢◌, ◌∙◌, sym, ℕ, suc, ◌+◌, ◌-◌, ◌<◌, List, [], ◌∷◌, ◌++◌, length, take, drop, get_or, ap, refl, arith, inl, inr, ◌⊎◌, add-one, append_assoc, ◌↔◌, Bool, Option, None, Some, MatchOption, IsTrue, Contains}
-use Rattle.std.proofs.lemmas.Grind.{common_steps}
-use Rattle.std.proofs.lemmas.Bool.{cases_order}
-use Rattle.std.proofs.lemmas.List.{get_or_at, get_or-drop, length-drop, get_or_default}
-use Rattle.std.proofs.Math.Seq.{split_at, take-append_seam, take-append-add, take-length}
-use Rattle.proto_names.specs.Scopes.{IsCandidate, prefixes}
-use Rattle.proto_desc.specs.DeclaredNames.{scoped}
+use Rattle.proto_names.proofs.Common.{◌≡◌, ◌≢◌, ◌∙◌, sym, ℕ, suc, ◌+◌, ◌-◌, ◌<◌, List, [], ◌∷◌, ◌++◌, length, take, drop, get_or, ap, refl, arith, inl, inr, ◌⊎◌, add-one, append_assoc, ◌↔◌, Bool, Option, None, Some, MatchOption, IsTrue, Contains, common_steps, cases_order, get_or_at, get_or-drop, get_or_default, split_at, take-append_seam, take-append-add, take-length, IsCandidate, prefixes, scoped, Occurrence, is_type, is_scope, is_message, Visible, Decides, IsAbsolute, IsInnermost, Means, IsType, Resolves, ResolvesNowhere, message, enumeration, Contains-get_or, at, blank, HasNoType, HasOneIn, IsNoType, IsTypeAmong, fits}
+use Rattle.std.proofs.lemmas.List.{length-drop}
 use Rattle.proto_desc.specs.declared.name_kind.NameKind.{NameKind}
-use Rattle.proto_names.specs.Occurrences.{Occurrence}
-use Rattle.proto_names.specs.Resolution.{is_type, is_scope, is_message, Visible, Decides, IsAbsolute, IsInnermost, Means, IsType, Resolves, ResolvesNowhere, message, enumeration}
 use Rattle.proto_names.specs.SeenAlike.{AreSeenAlike}
-use Rattle.std.proofs.lemmas.List.Elements.{Contains-get_or}
-use Rattle.proto_names.specs.Runs.{at, blank}
-use Rattle.proto_names.specs.Steps.{HasNoType, HasOneIn, IsNoType, IsTypeAmong, fits}
 use Rattle.proto_names.specs.declared.visible.Role.{Role}
 use Rattle.proto_names.specs.declared.visible.Role.TheVariants as role
 

@@ -1,10 +1,25 @@
--- What a tree and a front begin with.
-use Rattle.std.proofs.Common.{◌≡◌, true, false, ◌||◌, List, [], ◌∷◌, ◌++◌, refl, sym, arith}
-use Rattle.proto_tokens.specs.Token.{Lexeme, Spelled}
-use Rattle.proto_syntax.specs.Grammar.{Class, fits, Grammar, Tree, flatten, IsTree, one, nothing, both, first, second, none, more, IsFront, empty, token, within, past, of_first, of_second, items}
-use Rattle.proto_syntax.specs.Reading.{begins, can_be_empty, fits_any, next_fits, apart_from_all, all_apart}
-use Rattle.proto_syntax.proofs.Apart.{apart_means}
-use Rattle.std.proofs.lemmas.List.{append-nil}
+-- Classes that are apart have no token in common; what a tree and a front begin with.
+use Rattle.proto_syntax.proofs.Common.{◌≡◌, ℕ, true, false, not, List, [], ◌∷◌, sym, arith, ◌||◌, ◌++◌, refl, append-nil, bytes_eq-Decides, Lexeme, Spelled, Class, among, fits, Grammar, Tree, flatten, IsTree, one, nothing, both, first, second, none, more, IsFront, empty, token, within, past, of_first, of_second, items, none_among, all_among, apart, begins, can_be_empty, fits_any, next_fits, apart_from_all, all_apart}
+use Rattle.std.proofs.lemmas.Bool.{both_ways, not-true, not_from_true, false_from_ne_true, eqb-true}
+
+-- a word among one list is not among another that shares none with it
+none_among_same : (u : List ℕ) (ws vs : List (List ℕ)) → none_among ws vs ≡ true → among u ws ≡ true
+    → among u vs ≡ false
+none_among_same u [] vs h i = cc
+none_among_same u (w ∷ ws) vs h i = grind (arith, bytes_eq-Decides u w, none_among_same u ws vs)
+
+all_among_same : (u : List ℕ) (ws vs : List (List ℕ)) → all_among ws vs ≡ true → among u ws ≡ true → among u vs ≡ true
+all_among_same u [] vs h i = cc
+all_among_same u (w ∷ ws) vs h i = grind (arith, bytes_eq-Decides u w, all_among_same u ws vs)
+
+-- u is not among ws, all of which are among vs, if it is not among vs
+not_all_among : (u : List ℕ) (ws vs : List (List ℕ)) → all_among ws vs ≡ true → not (among u vs) ≡ true
+    → among u ws ≡ false
+not_all_among u ws vs h i = grind (arith, false_from_ne_true, both_ways, not-true, all_among_same)
+
+pub apart_means : (c d : Class) (w : Lexeme) → apart c d ≡ true → fits c w ≡ true → fits d w ≡ false
+apart_means c d w h i =
+    grind (arith, none_among_same, not_from_true, all_among_same, not_all_among, false_from_ne_true, not-true, eqb-true)
 
 fits_append : (cs ds : List Class) (w : Lexeme) → fits_any (cs ++ ds) w ≡ (fits_any cs w || fits_any ds w)
 fits_append [] ds w = refl

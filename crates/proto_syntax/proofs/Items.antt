@@ -1,12 +1,8 @@
 -- The trees of the items of a message.
-use Rattle.std.proofs.Common.{ℕ, true, false, not, ◌++◌, ◌≡◌, List, [], ◌∷◌, map, refl, sym, ◌∙◌, ap, arith}
-use Rattle.std.specs.Prelude.{bytes_eq, codes, Option, Some, None}
-use Rattle.std.proofs.lemmas.Slice.Eq.{bytes_eq-Decides}
-use Rattle.proto_tokens.specs.Token.{Spelled}
+use Rattle.proto_syntax.proofs.Common.{ℕ, true, false, not, ◌++◌, ◌≡◌, List, [], ◌∷◌, map, refl, sym, ◌∙◌, ap, arith, bytes_eq, codes, Option, Some, None, bytes_eq-Decides, Spelled, Field, among, IsTree, one, both, second, Tree, Pair, Left, Right, scalar_words, statement_words, Read, read, name_tree, symbol_tree, row, part_tree, declarator_tree, option_tree, enum_tree, oneof_tree, number_tree, reserved_tree, map_tree, field_head_tree, field_tree, unlabelled_tree, field_statement_tree, block_tree, item_step, message_step, message_item_tree, message_tree}
 use Rattle.proto_base.specs.declared.place.Span.{Span}
 use Rattle.proto_tree.specs.declared.enumeration.Enum.{Enum}
 use Rattle.proto_tree.specs.declared.field.Declarator.{Declarator}
-use Rattle.proto_tree.specs.declared.field.Field.{Field}
 use Rattle.proto_tree.specs.declared.field.FieldType.{FieldType}
 use Rattle.proto_tree.specs.declared.field.FieldType.TheVariants.{Scalar, Named}
 use Rattle.proto_tree.specs.declared.field.Label.{Label}
@@ -21,10 +17,7 @@ use Rattle.proto_tree.specs.declared.name.FullName.{FullName}
 use Rattle.proto_tree.specs.declared.oneof.Oneof.{Oneof}
 use Rattle.proto_tree.specs.declared.option.OptionStatement.{OptionStatement}
 use Rattle.proto_tree.specs.declared.reserved.Reserved.{Reserved}
-use Rattle.proto_syntax.specs.Grammar.{among, IsTree, one, both, second, Tree, Pair, Left, Right}
-use Rattle.proto_syntax.specs.Language.{scalar_words, statement_words, named_but, type_but, field_head, field}
-use Rattle.proto_syntax.specs.Reading.{Read, read}
-use Rattle.proto_syntax.specs.Trees.{name_tree, symbol_tree, row, part_tree, declarator_tree, option_tree, enum_tree, oneof_tree, number_tree, reserved_tree, map_tree, field_head_tree, field_tree, unlabelled_tree, field_statement_tree, block_tree, item_step, message_step, message_item_tree, message_tree}
+use Rattle.proto_syntax.specs.Language.{named_but, type_but, field_head, field}
 use Rattle.proto_syntax.proofs.Reach.{read_found}
 
 row_map : {A : Type 0} → (f : A → Tree) (xs : List A) → row (λ t. t) (map f xs) ≡ row f xs

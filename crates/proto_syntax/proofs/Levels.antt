@@ -1,10 +1,7 @@
 -- What one token of look-ahead needs of each rule.
-use Rattle.std.proofs.Common.{◌≡◌, ℕ, zero, suc, true, false, [], ◌∷◌, refl}
-use Rattle.std.specs.Prelude.{codes}
-use Rattle.proto_syntax.specs.Grammar.{OneOf, Grammar, ◌⨾◌, Many}
-use Rattle.proto_syntax.specs.Reading.{begins, goes_on, can_be_empty, decides}
-use Rattle.proto_syntax.specs.Language.{symbol, list_of, range_of, str, parts, full, named_but, type_but, signed, constant_number, constant, setting, options, option, rpc_type, rpc_item, rpc_body, rpc, service_item, service, erange, ereserved, value, enum_item, range, reserved, declarator, member, oneof_item, oneof, map_type, map_or_field, field_head, field, message_item, message, import, syntax, statement, file}
-use Rattle.std.proofs.lemmas.List.{append-nil}
+use Rattle.proto_syntax.proofs.Common.{◌≡◌, ℕ, zero, suc, true, false, [], ◌∷◌, codes, refl, append-nil, OneOf, Grammar, ◌⨾◌, Many, begins, goes_on, can_be_empty, decides, symbol, list_of, range_of, rpc_item, service_item, enum_item, oneof_item, message_item, statement}
+use Prim.Native.String.{String}
+use Rattle.proto_syntax.specs.Language.{str, parts, full, named_but, type_but, signed, constant_number, constant, setting, options, option, rpc_type, rpc_body, rpc, service, erange, ereserved, value, range, reserved, declarator, member, oneof, map_type, map_or_field, field_head, field, message, import, syntax, file}
 
 -- what is used of the messages one level down
 pub record IsLevel (m : Grammar) : Type 0 where
@@ -18,69 +15,45 @@ unfolding str parts full named_but type_but signed constant_number constant sett
     value range reserved declarator member oneof
     map_type map_or_field field_head field message
 level zero = record { begins_so = refl; ends_so = refl; has_tokens = refl; decided = refl }
-level (suc depth) = let h = level depth in record {
-  begins_so = refl;
-  ends_so = refl;
-  has_tokens = refl;
-  decided =
-      rw (h.begins_so, h.has_tokens, h.decided, h.ends_so) (refl {a = true});
-}
+level (suc depth) =
+    let h = level depth in
+    let d : decides (message (suc depth)) ≡ true =
+    rw (h.begins_so, h.has_tokens, h.decided, h.ends_so) (refl {a = true}) in
+    record { begins_so = refl; ends_so = refl; has_tokens = refl; decided = d }
 
 pub begins_message : (depth : ℕ) → begins (message depth) ≡ OneOf (codes "message" ∷ []) ∷ []
 begins_message depth = (level depth).begins_so
 
-pub message_block : (m : Grammar) → IsLevel m → decides (Many (message_item m) ⨾ symbol "}") ≡ true
-unfolding str parts full named_but type_but signed constant_number constant setting options option erange ereserved
-    value range reserved declarator member oneof
-    map_type map_or_field field_head field
-message_block m h = rw (h.begins_so, h.has_tokens, h.decided, h.ends_so) (refl {a = true})
-
-pub statement_decides : (m : Grammar) → IsLevel m → decides (statement m) ≡ true
+-- One token decides the statements of a message with what closes it, and those of a file.
+pub decided : (depth : ℕ) → (decides (Many (message_item (message depth)) ⨾ symbol "}") ≡ true)
+    × (decides (statement (message depth)) ≡ true) × (can_be_empty (statement (message depth)) ≡ false)
+    × (decides (syntax ⨾ Many (statement (message depth))) ≡ true)
 unfolding str parts full named_but type_but signed constant_number constant setting options option rpc_type rpc_body rpc
-    service erange ereserved value import
-statement_decides m h = rw (h.begins_so, h.has_tokens, h.decided) refl
-
-pub statement_not_empty : (m : Grammar) → IsLevel m → can_be_empty (statement m) ≡ false
-unfolding option service import
-statement_not_empty m h = rw h.has_tokens refl
+    service erange ereserved value range reserved declarator member oneof map_type map_or_field field_head field import
+    syntax
+decided depth = let h = level depth in
+    rw (h.begins_so, h.has_tokens, h.decided, h.ends_so) (refl {a = true}, refl {a = true}, refl, refl {a = true})
 
 pub file_decides : (depth : ℕ) → decides (file depth) ≡ true
-unfolding str parts full named_but type_but signed constant_number constant setting options option rpc_type rpc_body rpc
-    service erange ereserved value import
-    syntax file
-file_decides depth = let h = level depth in rw (h.begins_so, h.has_tokens, h.decided, h.ends_so) (refl {a = true})
+unfolding file
+file_decides depth = (decided depth).3
 
 pub begins_option : begins option ≡ OneOf (codes "option" ∷ []) ∷ []
 unfolding option
 begins_option = refl
 
-pub begins_oneof : begins oneof ≡ OneOf (codes "oneof" ∷ []) ∷ []
-unfolding oneof
-begins_oneof = refl
+-- the words with which the others begin
+abbrev Begins : Grammar → String → Type 0
+Begins g w = begins g ≡ OneOf (codes w ∷ []) ∷ []
 
-pub begins_reserved : begins reserved ≡ OneOf (codes "reserved" ∷ []) ∷ []
-unfolding reserved
-begins_reserved = refl
-
-pub begins_ereserved : begins ereserved ≡ OneOf (codes "reserved" ∷ []) ∷ []
-unfolding ereserved
-begins_ereserved = refl
-
-pub begins_map : begins map_or_field ≡ OneOf (codes "map" ∷ []) ∷ []
-unfolding map_or_field
-begins_map = refl
+pub begins_words : Begins import "import" × Begins service "service" × Begins oneof "oneof"
+    × Begins reserved "reserved" × Begins ereserved "reserved" × Begins map_or_field "map"
+unfolding import service oneof reserved ereserved map_or_field
+begins_words = (refl, refl, refl, refl, refl, refl)
 
 pub begins_rpc : begins rpc ≡ OneOf (codes "rpc" ∷ []) ∷ []
 unfolding rpc
 begins_rpc = refl
-
-pub begins_import : begins import ≡ OneOf (codes "import" ∷ []) ∷ []
-unfolding import
-begins_import = refl
-
-pub begins_service : begins service ≡ OneOf (codes "service" ∷ []) ∷ []
-unfolding service
-begins_service = refl
 
 pub oneof_block : decides (Many oneof_item ⨾ symbol "}") ≡ true
 unfolding str parts full named_but type_but constant_number constant setting options option declarator member

@@ -1,21 +1,14 @@
-pub mod Apart
-pub mod Sound
 pub mod Begins
-pub mod Complete
+mod Common
 pub mod Reach
 pub mod Deeper
 pub mod Prefix
 pub mod WordTests
 pub mod Loops
-pub mod Fails
 pub mod Levels
 pub mod Items
 pub mod Ways
-pub mod Limits
 pub mod Faults
 pub mod Spellings
 pub mod Unique
-pub mod SameNames
-pub mod SameItems
 pub mod SameFiles
-pub mod Placed

@@ -1,15 +1,9 @@
--- The turns of a loop that reads a repetition.
-use Rattle.std.proofs.Common.{◌≡◌, ℕ, zero, suc, ◌≤◌, ◌<◌, Bool, true, false, List, [], ◌∷◌, ◌++◌, length, refl, ap, arith}
-use Rattle.proto_tokens.specs.Token.{Spelled}
-use Rattle.proto_syntax.specs.Grammar.{Class, Grammar, One, Nothing, ◌⨾◌, ◌∣◌, Many, Beyond, Tree, Empty, Pair, flatten}
-use Rattle.proto_syntax.specs.Reading.{Outcome, Read, Stops, after, mapped, ended, read_many, read, begins, next_fits, can_be_empty, read_one, goes_on, decides}
-use Rattle.std.proofs.lemmas.List.{length-map}
-use Rattle.proto_tokens.specs.declared.token.Token.{Token}
-use Rattle.proto_syntax.specs.Gives.{spellings}
-use Rattle.proto_syntax.specs.Trees.{before}
+-- The turns of a loop that reads a repetition, and what the fault of an item is to the whole.
+use Rattle.proto_syntax.proofs.Common.{◌≡◌, ℕ, zero, suc, ◌≤◌, ◌<◌, Bool, true, false, List, [], ◌∷◌, ◌++◌, length, refl, ap, arith, ◌==◌, length-map, Spelled, Token, Grammar, One, Nothing, ◌⨾◌, ◌∣◌, Many, Beyond, Tree, Empty, Pair, flatten, symbol, Outcome, Read, Stops, after, mapped, ended, read_many, read, begins, next_fits, can_be_empty, goes_on, decides, spellings, Fails, before}
+use Rattle.proto_syntax.specs.declared.parser.stop.Stop.{Stop}
+use Rattle.proto_syntax.specs.declared.parser.stop.Stop.TheVariants as stop
 use Rattle.proto_syntax.proofs.Begins.{apart_other, tree_starts, next_append}
-use Rattle.proto_syntax.proofs.Complete.{not_empty_longer}
-use Rattle.proto_syntax.proofs.Reach.{read_found}
+use Rattle.proto_syntax.proofs.Reach.{not_empty_longer, read_found}
 
 -- a part that is not empty takes a token
 pub shorter : (g : Grammar) (x : Tree) (ts us : List Spelled) → can_be_empty g ≡ false → read g ts ≡ Read x us
@@ -80,9 +74,6 @@ abbrev Passes : Bool → List Spelled → Outcome → Type 0
 Passes b ts (Read x us) = (b ≡ true) × (us ≡ ts)
 Passes b ts (Stops d us) = (b ≡ false) × (d ≡ false) × (us ≡ ts)
 
-pub one_passes : (c : Class) (ts : List Spelled) → next_fits (c ∷ []) ts ≡ false → read_one c ts ≡ Stops false ts
-one_passes c ts h = grind arith
-
 passes : (g : Grammar) → decides g ≡ true → (ts : List Spelled) → next_fits (begins g) ts ≡ false
     → Passes (can_be_empty g) ts (read g ts)
 passes (One c) d ts h = grind arith
@@ -93,13 +84,7 @@ passes (a ∣ b) d ts h = grind (arith, next_append, λ (e : decides b ≡ true)
 passes (Many a) d ts h = grind (arith, many_ends a ts h)
 passes (Beyond c) d ts h = grind arith
 
--- One token of look-ahead that decides a block decides each item, and tells an item from what closes the block.
-pub items_decide : (g c : Grammar) → decides (Many g ⨾ c) ≡ true → decides g ≡ true
-items_decide g c d = grind arith
-
-pub items_not_empty : (g c : Grammar) → decides (Many g ⨾ c) ≡ true → can_be_empty g ≡ false
-items_not_empty g c d = grind arith
-
+-- One token of look-ahead that decides a block tells an item from what closes it.
 pub items_closed : (g c : Grammar) → decides (Many g ⨾ c) ≡ true → (ts : List Spelled) → next_fits (begins c) ts ≡ true
     → next_fits (begins g) ts ≡ false
 items_closed g c d [] e = refl
@@ -109,59 +94,65 @@ items_closed g c d (t ∷ ts) e = grind (
   apart_other (begins g ++ goes_on g) (begins c) t.lexeme,
 )
 
--- Items up to a sign that closes them, of which those of xs are read.
-abbrev pub Closes : {A : Type 0} → (A → Tree) → Grammar → Grammar → List A → List Spelled → Outcome
-Closes f g c xs ts = after (Rows f g xs ts) (λ x us. mapped (Pair x) (read c us))
+-- items, and behind them a sign that closes them
+abbrev pub closed : Grammar → Outcome → Outcome
+closed c o = after o (λ x us. mapped (Pair x) (read c us))
 
 pub closes_none : {A : Type 0} → (f : A → Tree) (g c : Grammar) (ts : List Spelled)
-    → Closes f g c [] ts ≡ read (Many g ⨾ c) ts
+    → closed c (Rows f g [] ts) ≡ read (Many g ⨾ c) ts
 closes_none f g c ts = grind arith
-
--- a token that is read begins the part
-read_begins : (g : Grammar) (x : Tree) (ts us : List Spelled) → decides g ≡ true → can_be_empty g ≡ false
-    → read g ts ≡ Read x us
-    → next_fits (begins g) ts ≡ true
-read_begins g x ts us d h e = grind (arith, passes g d ts)
-
-pub closes_more : {A : Type 0} → (f : A → Tree) (g c : Grammar) (xs : List A) (x : A) (ts us : List Spelled)
-    (o : Outcome) → decides (Many g ⨾ c) ≡ true
-    → read g ts ≡ Read (f x) us → Closes f g c xs ts ≡ o → Closes f g c (xs ++ (x ∷ [])) us ≡ o
-closes_more f g c xs x ts us o d i k =
-    let h = items_not_empty g c d in
-    let b = read_begins g (f x) ts us (items_decide g c d) h i in
-    cc (mapped_push f xs x (read (Many g) us), many_more g (f x) ts us h b i)
-
-pub closes_stop : {A : Type 0} → (f : A → Tree) (g c : Grammar) (xs : List A) (b : Bool) (ts us : List Spelled)
-    (o : Outcome) → decides (Many g ⨾ c) ≡ true
-    → read c ts ≡ Stops false ts → read g ts ≡ Stops b us → Closes f g c xs ts ≡ o → o ≡ Stops b us
-closes_stop f g c xs b ts us o d j i k =
-    grind (arith, many_stops g b ts us, many_ends g ts, passes g (items_decide g c d) ts, items_not_empty g c d)
-
-pub closes_end : {A : Type 0} → (f : A → Tree) (g c : Grammar) (xs : List A) (y : Tree) (ts us : List Spelled)
-    (o : Outcome) → decides (Many g ⨾ c) ≡ true
-    → next_fits (begins c) ts ≡ true → read c ts ≡ Read y us → Closes f g c xs ts ≡ o
-    → o ≡ Read (Pair (before f xs Empty) y) us
-closes_end f g c xs y ts us o d e i k = cc (many_ends g ts (items_closed g c d ts e))
 
 pub ended_mapped : (f : Tree → Tree) (o : Outcome) → ended (mapped f o) ≡ mapped f (ended o)
 ended_mapped f o = grind arith
 
--- Items up to the end of the tokens.
-abbrev pub Ends : {A : Type 0} → (A → Tree) → Grammar → List A → List Spelled → Outcome
-Ends f g xs ts = ended (Rows f g xs ts)
-
 pub ends_none : {A : Type 0} → (f : A → Tree) (g : Grammar) (ts : List Spelled)
-    → Ends f g [] ts ≡ ended (read (Many g) ts)
+    → ended (Rows f g [] ts) ≡ ended (read (Many g) ts)
 ends_none f g ts = grind arith
 
-pub ends_more : {A : Type 0} → (f : A → Tree) (g : Grammar) (xs : List A) (x : A) (ts us : List Spelled) (o : Outcome)
-    → decides g ≡ true
-    → can_be_empty g ≡ false → read g ts ≡ Read (f x) us → Ends f g xs ts ≡ o → Ends f g (xs ++ (x ∷ [])) us ≡ o
-ends_more f g xs x ts us o d h i k =
-    cc (mapped_push f xs x (read (Many g) us), many_more g (f x) ts us h (read_begins g (f x) ts us d h i) i)
+-- Some items are read, of which a whole is made with those that follow.
+pub record Turn {A : Type 0} (f : A → Tree) (g : Grammar) (whole : Outcome → Outcome) (xs : List A) (ts : List Spelled)
+    (o : Outcome) : Type 0 where
+  pub decided : decides g ≡ true
+  pub has_tokens : can_be_empty g ≡ false
+  pub so_far : whole (Rows f g xs ts) ≡ o
 
-pub ends_stop : {A : Type 0} → (f : A → Tree) (g : Grammar) (xs : List A) (d : Bool) (t : Spelled)
-    (ts us : List Spelled) (o : Outcome) → decides g ≡ true
-    → can_be_empty g ≡ false → read g (t ∷ ts) ≡ Stops d us → Ends f g xs (t ∷ ts) ≡ o → o ≡ Stops d us
-ends_stop f g xs d t ts us o dg h i k =
-    grind (arith, many_stops g d (t ∷ ts) us, many_ends g (t ∷ ts), passes g dg (t ∷ ts))
+pub turn_first : {A : Type 0} (f : A → Tree) (g c : Grammar) (xs : List A) (ts : List Spelled)
+    → decides (Many g ⨾ c) ≡ true → xs ≡ [] → Turn f g (closed c) xs ts (read (Many g ⨾ c) ts)
+turn_first f g c xs ts d e = grind (arith, closes_none)
+
+module _ {A : Type 0} {f : A → Tree} {g : Grammar} {whole : Outcome → Outcome} {xs : List A} {ts : List Spelled}
+    {o : Outcome} (t : Turn f g whole xs ts o) where
+  pub turn_more : (x : A) (us : List Spelled) → read g ts ≡ Read (f x) us → Turn f g whole (xs ++ (x ∷ [])) us o
+  turn_more x us i =
+      let b : next_fits (begins g) ts ≡ true = grind (arith, passes g t.decided ts) in
+      record {
+        decided = t.decided;
+        has_tokens = t.has_tokens;
+        so_far = cc (mapped_push f xs x (read (Many g) us), many_more g (f x) ts us t.has_tokens b i, t.so_far);
+      }
+
+  -- the fault of an item
+  turn_stops : (d : Bool) (us : List Spelled) → ((b : Bool) (vs : List Spelled) → whole (Stops b vs) ≡ Stops b vs)
+      → whole (Read (before f xs Empty) ts) ≡ Stops false ts → read g ts ≡ Stops d us → o ≡ Stops d us
+  turn_stops d us w e i = grind (arith, many_stops g d ts us, many_ends g ts, passes g t.decided ts, w d us)
+
+  pub turn_fails : (rest : List Token) (e : Stop) → ((b : Bool) (vs : List Spelled) → whole (Stops b vs) ≡ Stops b vs)
+      → whole (Read (before f xs Empty) ts) ≡ Stops false ts → Fails e rest (read g ts) → Fails e rest o
+  turn_fails rest stop.NoMemory w e i = tt
+  turn_fails rest stop.Unexpected w e i = turn_stops false (spellings rest) w e i
+  turn_fails rest stop.TooDeep w e i = turn_stops true (spellings rest) w e i
+
+pub closes_fails : {A : Type 0} {f : A → Tree} {g : Grammar} {xs : List A} {ts : List Spelled} {o : Outcome}
+    → Turn f g (closed (symbol "}")) xs ts o → next_fits (begins (symbol "}")) ts ≡ false → (rest : List Token)
+    (e : Stop) → Fails e rest (read g ts) → Fails e rest o
+closes_fails t n rest e i = turn_fails t rest e (λ b vs. refl) (grind arith) i
+
+pub closes_end : {A : Type 0} {f : A → Tree} {g : Grammar} {xs : List A} {ts us : List Spelled} {o : Outcome}
+    (c : Grammar) (y : Tree) → decides (Many g ⨾ c) ≡ true → Turn f g (closed c) xs ts o
+    → next_fits (begins c) ts ≡ true → read c ts ≡ Read y us → o ≡ Read (Pair (before f xs Empty) y) us
+closes_end {g = g} {ts = ts} c y d t e i = cc (many_ends g ts (items_closed g c d ts e), t.so_far)
+
+pub not_ended : (x : Tree) (ts : List Token) → (length ts == 0) ≡ false
+    → ended (Read x (spellings ts)) ≡ Stops false (spellings ts)
+not_ended x [] h = cc
+not_ended x (t ∷ ts) h = refl

@@ -1,11 +1,7 @@
 -- What a front begins with is a front, so a list of tokens has at most one fault.
-use Rattle.std.proofs.Common.{true, append_assoc, ◌≡◌, ◌⊎◌, inl, inr, ℕ, zero, suc, ◌≤◌, ◌<◌, List, [], ◌∷◌, ◌++◌, take, drop, refl, sym, ◌∙◌, ap, subst, arith}
-use Rattle.std.proofs.lemmas.List.{take-append-drop}
-use Rattle.proto_tokens.specs.Token.{Spelled}
-use Rattle.proto_syntax.specs.Grammar.{Class, fits, Grammar, One, ◌⨾◌, ◌∣◌, Many, Tree, flatten, IsTree, none, more, IsFront, empty, token, within, past, of_first, of_second, items}
-use Rattle.proto_syntax.specs.Fault.{IsFaultAt}
+use Rattle.proto_syntax.proofs.Common.{true, append_assoc, ◌≡◌, ◌⊎◌, inl, inr, ℕ, ◌≤◌, ◌<◌, List, [], ◌∷◌, ◌++◌, take, drop, refl, sym, ◌∙◌, ap, subst, arith, take-append-drop, take-take, Spelled, Class, fits, Grammar, One, ◌⨾◌, ◌∣◌, Many, Tree, flatten, IsTree, none, more, IsFront, empty, token, within, past, of_first, of_second, items, IsFaultAt}
 use Rattle.proto_syntax.proofs.Begins.{tree_front}
-use Rattle.proto_syntax.proofs.Sound.{after_item}
+use Rattle.proto_syntax.proofs.Reach.{after_item}
 
 -- two cuts of one list
 abbrev Cuts : (us vs a b : List Spelled) → Type 0
@@ -24,10 +20,6 @@ cuts (t ∷ us) vs (u ∷ a) b e =
 
 abbrev Closed : Grammar → Type 0
 Closed g = (ts : List Spelled) → IsFront g ts → (a b : List Spelled) → ts ≡ a ++ b → IsFront g a
-
-empty_prefix : (g : Grammar) (a b : List Spelled) → [] ≡ a ++ b → IsFront g a
-empty_prefix g [] b e = empty
-empty_prefix g (t ∷ a) b e = cc
 
 one_prefix : (c : Class) (t : Spelled) → fits c t.lexeme ≡ true → (a b : List Spelled) → t ∷ [] ≡ a ++ b
     → IsFront (One c) a
@@ -56,7 +48,8 @@ items_prefix g p _ (more {x = x} {y = y} ix iy) us f a b e =
     (cuts (flatten x) (flatten y ++ us) a b (sym (append_assoc (flatten x) (flatten y) us) ∙ e))
 
 pub closed : (g : Grammar) → Closed g
-closed g _ empty a b e = empty_prefix g a b e
+closed g _ f [] b e = empty
+closed g _ empty (t ∷ a) b e = cc
 closed (One c) _ (token {t = t} h) a b e = one_prefix c t h a b e
 closed (g ⨾ h) ts (within f) a b e = within (closed g ts f a b e)
 closed (g ⨾ h) ts (past {x = x} {us = us} ix f k) a b e =
@@ -65,16 +58,10 @@ closed (g ∣ h) ts (of_first f) a b e = of_first (closed g ts f a b e)
 closed (g ∣ h) ts (of_second f) a b e = of_second (closed h ts f a b e)
 closed (Many g) ts (items {x = x} {us = us} ix f k) a b e = items_prefix g (closed g) x ix us f a b (sym k ∙ e)
 
-take_take : (j k : ℕ) (ts : List Spelled) → j ≤ k → take j (take k ts) ≡ take j ts
-take_take zero k ts h = refl
-take_take (suc j) zero ts h = absurd (omega arith)
-take_take (suc j) (suc k) [] h = refl
-take_take (suc j) (suc k) (t ∷ ts) h = ap (λ z. t ∷ z) (take_take j k ts (omega arith))
-
 shorter_front : (g : Grammar) (ts : List Spelled) (j k : ℕ) → j ≤ k → IsFront g (take k ts) → IsFront g (take j ts)
 shorter_front g ts j k h f =
     closed g (take k ts) f (take j ts) (drop j (take k ts))
-    (sym (take-append-drop j (take k ts)) ∙ ap (λ z. z ++ drop j (take k ts)) (take_take j k ts h))
+    (sym (take-append-drop j (take k ts)) ∙ ap (λ z. z ++ drop j (take k ts)) (take-take j k ts h))
 
 no_earlier : (limit : ℕ) (ts : List Spelled) (j k : ℕ) → IsFaultAt limit ts j → IsFaultAt limit ts k → j < k → ⊥
 no_earlier limit ts j k h i l = grind (arith, shorter_front)

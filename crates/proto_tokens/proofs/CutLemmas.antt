@@ -1,20 +1,10 @@
 -- A text cut into pieces, one after another.
-use Rattle.std.proofs.Common.{◌≡◌, ℕ, ◌+◌, ◌<◌, ◌≤◌, Option, None, Some, List, [], ◌∷◌, ◌++◌, length, drop, map, refl, sym, ap, subst, ◌∙◌, inr, arith, length-drop, length-take-le}
-use Rattle.std.proofs.lemmas.List.{append-nil, map_push}
-use Rattle.std.specs.Option.{option_map}
-use Rattle.std.specs.Str.{IsUtf8}
+use Rattle.proto_tokens.proofs.Common.{◌≡◌, ℕ, ◌+◌, ◌<◌, ◌≤◌, Option, None, Some, List, [], ◌∷◌, ◌++◌, length, drop, map, refl, sym, ap, subst, ◌∙◌, inr, arith, length-drop, length-take-le, append-nil, option_map, IsUtf8, map_push, Kind, Lexeme, Spelled, spelled, lexeme_of, IsLongestPiece, IsPieceFault, IsFaultFrom, TokenError}
 use Rattle.proto_tokens.specs.declared.token.Token.{Token}
 use Rattle.proto_tokens.specs.declared.token.TokenKind.{TokenKind}
 use Rattle.proto_tokens.specs.Cut.{IsCutInto}
-use Rattle.proto_tokens.specs.Quoted.{IsStringFault}
-use Rattle.proto_base.specs.declared.kind.Kind.{Kind}
-use Rattle.proto_tokens.specs.Token.{Lexeme, Spelled}
-use Rattle.proto_tokens.specs.ProgramTokens.{spelled, lexeme_of}
-use Rattle.proto_tokens.specs.Piece.{IsLongestPiece, IsPieceFault}
 use Rattle.proto_tokens.specs.Spelling.{Piece, IsCutIntoPieces, tokens_from, with_token, mark_len}
 use Rattle.proto_tokens.specs.Told.{IsPlacedWithin, IsFaultOf}
-use Rattle.proto_tokens.specs.Steps.{IsFaultFrom}
-use Rattle.proto_tokens.specs.declared.token.TokenError.{TokenError}
 use Rattle.proto_tokens.specs.declared.token.TokenError.TheVariants as errors
 use Rattle.proto_tokens.proofs.Pieces.{starts}
 
@@ -48,14 +38,10 @@ cut_one IsPart len one s from (p ∷ ps) (q ∷ qs) m n a b no_m no_n =
     let rest = cut_one IsPart len one s (from + len p) ps qs m n a.1 (rw same b.1) no_m no_n in
     ((λ i. same i ∷ rest.0 i), rest.1)
 
-with_token-append : (piece : Option Lexeme) (start end : ℕ) (ts us : List Spelled)
-    → with_token piece start end (ts ++ us) ≡ with_token piece start end ts ++ us
-with_token-append piece start end ts us = grind arith
-
 tokens_more : (s : List ℕ) (from : ℕ) (ps : List Piece) (to : ℕ) (p : Piece) → IsCutIntoPieces s from ps to
     → tokens_from from (ps ++ p ∷ []) ≡ tokens_from from ps ++ with_token p.is to (to + p.len) []
 tokens_more s from [] to p cut = grind arith
-tokens_more s from (q ∷ ps) to p cut = grind (arith, with_token-append, tokens_more s (from + q.len) ps to p cut.1)
+tokens_more s from (q ∷ ps) to p cut = grind (arith, tokens_more s (from + q.len) ps to p cut.1)
 
 cut_on : (s : List ℕ) (start at n : ℕ) (piece : Option Lexeme) (ts : List Spelled) → IsCutUpTo s start at ts
     → IsLongestPiece (drop at s) n piece
@@ -98,13 +84,10 @@ pub cut_within : (s : List ℕ) (from : ℕ) (ps : List Piece) (to : ℕ) → fr
     → to ≤ length s
 cut_within s from [] to within cut = omega (arith, cut)
 cut_within s from (p ∷ ps) to within cut =
-    cut_within s (from + p.len) ps to (omega (arith, cut.0.fits, length-drop from s)) cut.1
-
-string_fault_within : (s : List ℕ) (at : ℕ) (kind : Kind) → IsStringFault s at kind → at ≤ length s
-string_fault_within s at kind fault = grind arith
+    grind (arith, length-drop, cut_within s (from + p.len) ps to)
 
 pub piece_fault_within : (s : List ℕ) (at : ℕ) (kind : Kind) → IsPieceFault s at kind → at ≤ length s
-piece_fault_within s at kind fault = grind (arith, string_fault_within)
+piece_fault_within s at kind fault = grind arith
 
 pub placed_within : (s source : List ℕ) (mark : ℕ) (e : TokenError) → source ≡ s → mark ≤ length s
     → IsFaultFrom source mark e → IsPlacedWithin (length s) e

@@ -1,17 +1,6 @@
 -- Escapes: which is the longest, and where none stands.
-use Rattle.std.proofs.lemmas.Grind.{common_steps}
-use Rattle.std.proofs.Common.{◌-◌, ◌≡◌, ◌≢◌, ℕ, zero, suc, ◌+◌, ◌<◌, ◌≤◌, ◌⊎◌, true, None, Some, List, [], ◌∷◌, length, get_or, take, refl, sym, ap, inl, inr, arith, length-take-le}
-use Rattle.std.specs.Prelude.{slice_get}
-use Rattle.std.specs.List.{prefix_len}
-use Rattle.std.specs.Char.{is_digit, IsScalar}
-use Rattle.std.proofs.lemmas.Bool.Decides.{nat_tests}
-use Rattle.std.proofs.lemmas.List.{take-take, length-take}
-use Rattle.std.proofs.lemmas.List.Sums.{prefix_len-le-length}
-use Rattle.std.proofs.lemmas.List.Elements.{All-head}
-use Rattle.proto_tokens.specs.Bytes.{begins}
-use Rattle.proto_tokens.specs.Numeral.{Writes, digits_value}
+use Rattle.proto_tokens.proofs.Common.{common_steps, ◌-◌, ◌≡◌, ◌≢◌, ℕ, zero, suc, ◌+◌, ◌<◌, ◌≤◌, ◌⊎◌, true, None, Some, List, [], ◌∷◌, length, get_or, take, refl, ap, inl, inr, arith, length-take-le, slice_get, take-take, length-take, prefix_len, is_digit, IsScalar, nat_tests, prefix_len-le-length, All-head, begins, Writes, digits_value, HasNoEscape}
 use Rattle.proto_tokens.specs.Escape.{Escaped, byte, character, simple_escape, IsEscape, IsAllowedEscape}
-use Rattle.proto_tokens.specs.Steps.{HasNoEscape}
 use Rattle.proto_tokens.proofs.Runs.{run_passes, run_longest, run_nonempty}
 
 pub escape_begins : (bs : List ℕ) (e : Escaped) → IsEscape bs e → (2 ≤ length bs) × (get_or bs 0 0 ≡ 92)
@@ -56,9 +45,8 @@ one_by : (c : ℕ) (bs : List ℕ) (d e : Escaped) → EscapeBy c bs d → Escap
 one_by c bs d e x y = grind arith
 
 pub escape_one : (bs : List ℕ) (d e : Escaped) → IsEscape bs d → IsEscape bs e → d ≡ e
-escape_one [] d e x y = absurd (omega (arith, (escape_begins [] d x).0))
-escape_one (b ∷ []) d e x y = absurd (omega (arith, (escape_begins (b ∷ []) d x).0))
 escape_one (b ∷ c ∷ bs) d e x y = one_by c bs d e (escape_by b c bs d x) (escape_by b c bs e y)
+escape_one bs d e x y = grind (arith, escape_begins)
 
 -- the first bytes of the text are fixed, and from one to most digits of a base may follow
 pub record EscapesByDigits (s digits : List ℕ) (head most base : ℕ) : Type 0 where
@@ -86,25 +74,14 @@ module _ (s digits : List ℕ) (head most base : ℕ) (by : EscapesByDigits s di
   pub digits_found : (v : ℕ) → 0 < m → v ≡ digits_value base (take m digits) → v < 256
       → IsAllowedEscape s (head + m) (byte v)
   digits_found v pos v_is small =
-      let fits = m_fits in (
-        record {
-          fits = omega (arith, by.long);
-          escape_is = by.into m v pos fits.0 fits.1 (rw v_is all_written);
-          longest = λ k other lt within is. let o = by.out k other within is in grind (arith, no_more, by.long);
-        },
-        small,
-      )
+      let fits = m_fits in let written = all_written in grind (arith, by.into m v, by.long, by.out, no_more)
 
   pub digits_refused : (0 < m → 256 ≤ digits_value base (take m digits)) → HasNoEscape s
   digits_refused big n e allowed =
       let value = digits_value base (take m digits) in
       let o = by.out n e allowed.0.fits allowed.0.escape_is in
       let most_m = no_more (n - head) o.0 (omega arith) (omega (arith, by.long, allowed.0.fits)) o.4 in
-      let longer = allowed.0.longest (head + m) (byte value) in
-      let into = by.into m value in
-      let fits = m_fits in
-      let written = all_written in
-      grind (arith, by.long, big)
+      grind (arith, by.long, big, allowed.0.longest (head + m) (byte value), by.into m value, m_fits, all_written)
 
 octal_only : (c : ℕ) (bs : List ℕ) (e : Escaped) → (48 ≤ c) × (c < 56) → EscapeBy c bs e
     → (n : ℕ) × (length bs ≤ 2) × (e ≡ byte n) × Writes 8 (c ∷ bs) n
@@ -168,17 +145,9 @@ digits_begin digits most m e pos m_is = grind (arith, common_steps, run_nonempty
 pub simple_behind : (after : List ℕ) (c n : ℕ) → Some c ≡ slice_get after 0 → Some n ≡ simple_escape c → n < 256
     → IsAllowedEscape (92 ∷ after) 2 (byte n)
 simple_behind [] c n at simple small = absurd cc
-simple_behind (b ∷ after) c n at simple small = (
-  record {
-    fits = omega arith;
-    escape_is = inl (c, grind arith, sym simple);
-    longest = λ k other lt within is. let o = escape_at 92 b after k other within is in grind (arith, simple_form);
-  },
-  small,
-)
+simple_behind (b ∷ after) c n at simple small = grind (arith, escape_at 92 b after, simple_form)
 
 pub none_behind : (after : List ℕ) (c : ℕ) → Some c ≡ slice_get after 0 → IsSimpleForm c → None ≡ simple_escape c
     → HasNoEscape (92 ∷ after)
 none_behind [] c at form none = absurd cc
-none_behind (b ∷ after) c at form none = λ n e allowed.
-    let o = escape_at 92 b after n e allowed.0.fits allowed.0.escape_is in grind arith
+none_behind (b ∷ after) c at form none = λ n e allowed. grind (arith, escape_at 92 b after n e)

@@ -1,19 +1,6 @@
 -- Numbers that digits write.
-use Rattle.std.proofs.lemmas.Grind.{common_steps}
-use Rattle.std.proofs.Common.{◌≡◌, ℕ, ◌+◌, ◌*◌, ◌<◌, ◌≤◌, ◌^◌, true, false, Option, None, Some, Result, List, [], ◌∷◌, length, get_or, take, drop, refl, inr, sym, ap, ◌∙◌, arith}
-use Rattle.std.specs.List.{fold, list_all}
-use Rattle.std.specs.Char.{digit_value}
-use Rattle.std.proofs.lemmas.List.{take-append-drop}
-use Rattle.std.proofs.lemmas.List.Sums.{fold_more, fold-append, list_all-from_AllPass, AllPass-from_list_all}
-use Rattle.std.proofs.Math.Nat.{mul-le-mul_left}
-use Rattle.std.proofs.lemmas.Bool.{false≢true}
-use Rattle.std.specs.Prelude.{◌↔◌, MatchOption, MatchResult}
-use Rattle.std.specs.Option.{ok_or}
-use Rattle.std.specs.Char.{is_digit}
-use Rattle.proto_base.specs.declared.kind.Kind.{Kind}
+use Rattle.proto_tokens.proofs.Common.{common_steps, ◌≡◌, ℕ, ◌+◌, ◌*◌, ◌<◌, ◌≤◌, ◌^◌, true, false, Option, None, Some, Result, List, [], ◌∷◌, length, get_or, take, drop, refl, inr, arith, fold, take-append-drop, mul-le-mul_left, ◌↔◌, MatchOption, MatchResult, ok_or, list_all, digit_value, fold_more, fold-append, list_all-from_AllPass, AllPass-from_list_all, false≢true, is_digit, Kind, digits_value, Writes, IsNumeral, IsNumeralFault}
 use Rattle.proto_base.specs.declared.kind.Kind.TheVariants.{NumberTooBig}
-use Rattle.proto_tokens.specs.Numeral.{digits_value, Writes, IsNumeral}
-use Rattle.proto_tokens.specs.Steps.{IsNumeralFault}
 
 abbrev pub step : ℕ → ℕ → ℕ → ℕ
 step base n d = n * base + digit_value d
@@ -22,16 +9,13 @@ step base n d = n * base + digit_value d
 step_grows : (base : ℕ) (n : ℕ) (ds : List ℕ) → 0 < base → n ≤ fold (step base) n ds
 step_grows base n [] pos = omega arith
 step_grows base n (d ∷ ds) pos =
-    let rest = step_grows base (n * base + digit_value d) ds pos in
-    let once : n * 1 ≤ n * base = mul-le-mul_left n pos in
-    omega (arith, rest, once)
+    grind (arith, step_grows base (n * base + digit_value d) ds pos, mul-le-mul_left n pos)
 
 pub digits_value_prefix : (base : ℕ) (ds : List ℕ) (i : ℕ) → 0 < base
     → digits_value base (take i ds) ≤ digits_value base ds
 digits_value_prefix base ds i pos =
-    let joined = ap (fold (step base) 0) (sym (take-append-drop i ds))
-    ∙ fold-append (step base) 0 (take i ds) (drop i ds) in
-    omega (arith, joined, step_grows base (fold (step base) 0 (take i ds)) (drop i ds) pos)
+    let grows = step_grows base (fold (step base) 0 (take i ds)) (drop i ds) pos in
+    grind (arith, fold-append (step base) 0 (take i ds) (drop i ds), take-append-drop i ds)
 
 -- one step past the greatest number, so the whole is past it too
 pub too_big_from_step : (base : ℕ) (ds : List ℕ) (i value factor : ℕ) → 0 < base → i < length ds
@@ -53,6 +37,5 @@ pub has_value : (bs : List ℕ) (base : ℕ) (ds : List ℕ) (value : Option ℕ
     → MatchOption value (2 ^ 64 ≤ digits_value base ds) (λ n. n ≡ digits_value base ds)
     → result ≡ ok_or value NumberTooBig
     → MatchResult result (IsNumeral bs) (IsNumeralFault bs)
-has_value bs base ds None result on parts big e =
-    rw e (inr (refl, digits_value base ds, (parts (digits_value base ds)).1 (are_written base ds _ on refl), big))
+has_value bs base ds None result on parts big e = rw e (inr (refl, _, (parts _).1 (are_written base ds _ on refl), big))
 has_value bs base ds (Some n) result on parts same e = rw e ((parts n).1 (are_written base ds n on same))

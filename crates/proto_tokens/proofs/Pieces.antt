@@ -1,24 +1,6 @@
 -- Which pieces are the longest at their place.
-use Rattle.std.proofs.lemmas.Grind.{common_steps}
-use Rattle.std.proofs.Common.{◌≡◌, ℕ, zero, suc, ◌+◌, ◌<◌, ◌≤◌, ◌^◌, ◌⊎◌, ◌≢◌, true, false, Option, None, Some, List, [], ◌∷◌, ◌++◌, length, get_or, take, drop, refl, sym, ap, subst, ◌∙◌, inl, inr, append_assoc, arith, get_or-take, get_or-drop, length-drop, length-take-le, ◌-◌, add-zero}
-use Rattle.std.specs.List.{AllPass, prefix_len}
-use Rattle.std.specs.Char.{is_ascii_digit, is_digit}
-use Rattle.std.proofs.lemmas.Bool.{both_ways, cases_lt}
-use Rattle.std.proofs.lemmas.List.{take_more, take_rest, get_or_past, get_or_at, get_or_append_left, get_or-append-add, length-append}
-use Rattle.std.proofs.lemmas.Bool.Decides.{nat_tests}
-use Rattle.std.proofs.lemmas.List.Sums.{prefix_len-le-length, prefix_len_passes}
-use Rattle.std.specs.Str.{IsUtf8, IsCharBoundary}
-use Rattle.std.proofs.lemmas.Str.{IsCharBoundary-after_ascii}
-use Rattle.std.proofs.lemmas.List.Elements.{All-cons, All-head, All-weaker, All-get_or}
-use Rattle.proto_tokens.specs.Bytes.{is_blank, is_letter, is_word, is_numeric, is_quote, is_punctuation, is_slash_or_star, is_in_line, begins}
-use Rattle.proto_tokens.specs.Numeral.{Writes, IsNumeral}
-use Rattle.proto_tokens.specs.Quoted.{IsString}
-use Rattle.proto_tokens.specs.Token.{Lexeme, identifier, number, string_literal, punctuation}
-use Rattle.proto_tokens.specs.Piece.{IsPiece, IsLongestPiece, IsPieceFault, IsBadNumber, IsLineComment, IsBlockComment, HasNoClose}
-use Rattle.proto_base.specs.declared.kind.Kind.{Kind}
-use Rattle.proto_tokens.specs.declared.token.TokenError.{TokenError}
+use Rattle.proto_tokens.proofs.Common.{common_steps, ◌≡◌, ℕ, zero, suc, ◌+◌, ◌<◌, ◌≤◌, ◌^◌, ◌⊎◌, ◌≢◌, true, false, Option, None, Some, List, [], ◌∷◌, ◌++◌, length, get_or, take, drop, refl, sym, ap, ◌∙◌, inl, inr, append_assoc, arith, get_or-take, get_or-drop, length-drop, length-take-le, ◌-◌, add-zero, get_or-append-add, length-append, IsUtf8, IsCharBoundary, AllPass, prefix_len, is_ascii_digit, is_digit, both_ways, cases_lt, take_more, take_rest, get_or_past, get_or_at, get_or_append_left, nat_tests, prefix_len-le-length, prefix_len_passes, IsCharBoundary-after_ascii, All-cons, All-head, All-weaker, All-get_or, is_blank, is_letter, is_word, is_numeric, is_quote, is_punctuation, is_slash_or_star, is_in_line, begins, Writes, IsNumeral, Lexeme, identifier, number, string_literal, punctuation, IsPiece, IsLongestPiece, IsPieceFault, IsBadNumber, IsLineComment, IsBlockComment, HasNoClose, Kind, TokenError, IsNumeralFault, IsFirstClose, IsFaultAfter}
 use Rattle.proto_tokens.specs.declared.token.TokenError.TheVariants as errors
-use Rattle.proto_tokens.specs.Steps.{IsNumeralFault, IsFirstClose, IsFaultAfter}
 use Rattle.proto_tokens.proofs.Runs.{begins_first, begins_from, begins_second, run_passes, run_longest, run_stops, within_run, run_nonempty}
 
 -- ---- the first byte of a piece
@@ -42,49 +24,38 @@ numeral_numeric bs n (inl hex) = grind (arith, nat_tests, All-cons, digits_numer
 numeral_numeric bs n (inr (inl octal)) = grind (arith, nat_tests, All-cons, digits_numeric)
 numeral_numeric bs n (inr (inr decimal)) = grind (arith, digits_numeric, nat_tests)
 
--- a string begins with its quote
-string_starts : (s : List ℕ) (n : ℕ) (value : List ℕ) → IsString s n value
-    → (0 < length (take n s)) × (is_quote (get_or (take n s) 0 0) ≡ true)
-string_starts s n value is = grind arith
-
 -- what a prefix that isn't empty begins with
 first_taken : (s : List ℕ) (n : ℕ) → 0 < length (take n s)
     → (0 < n) × (0 < length s) × (get_or (take n s) 0 0 ≡ get_or s 0 0)
 first_taken s n long = grind arith
 
-prefix_starts : (s : List ℕ) (n : ℕ) (piece : Option Lexeme) → IsPiece s n piece
-    → (0 < length (take n s)) × Starts piece (get_or (take n s) 0 0)
-prefix_starts s n piece is = grind (arith, All-get_or, begins_first, numeral_numeric, string_starts)
-
 pub starts : (s : List ℕ) (n : ℕ) (piece : Option Lexeme) → IsPiece s n piece
     → (0 < n) × (0 < length s) × Starts piece (get_or s 0 0)
-starts s n piece is = let prefix = prefix_starts s n piece is in grind (arith, first_taken)
+starts s n piece is = grind (arith, All-get_or, begins_first, first_taken s n, numeral_numeric)
 
 -- ---- longest pieces
 
 -- no two kinds of piece begin alike, except with `/`
-pub letter_alone : (b : ℕ) (piece : Option Lexeme) → is_letter b ≡ true → Starts piece b
-    → (name : List ℕ) × (piece ≡ Some (identifier name))
-letter_alone b piece e f = grind (arith, nat_tests)
+pub record IsBegunBy (b : ℕ) (piece : Option Lexeme) : Type 0 where
+  pub letter : is_letter b ≡ true → (name : List ℕ) × (piece ≡ Some (identifier name))
+  pub digit : is_ascii_digit b ≡ true → (n : ℕ) × (piece ≡ Some (number n))
+  pub quote : is_quote b ≡ true → (value : List ℕ) × (piece ≡ Some (string_literal value))
+  pub slash : b ≡ 47 → (piece ≡ None) ⊎ ((c : ℕ) × (piece ≡ Some (punctuation c)))
+  pub blank : is_blank b ≡ true → piece ≡ None
+  pub mark : is_punctuation b ≡ true → ((piece ≡ None) × (b ≡ 47)) ⊎ ((c : ℕ) × (piece ≡ Some (punctuation c)))
 
-pub digit_alone : (b : ℕ) (piece : Option Lexeme) → is_ascii_digit b ≡ true → Starts piece b
-    → (n : ℕ) × (piece ≡ Some (number n))
-digit_alone b piece e f = grind (arith, nat_tests)
+begun : (b : ℕ) (piece : Option Lexeme) → Starts piece b → IsBegunBy b piece
+begun b piece f = record {
+  letter = λ e. grind (arith, nat_tests);
+  digit = λ e. grind (arith, nat_tests);
+  quote = λ e. grind (arith, nat_tests);
+  slash = λ e. grind (arith, nat_tests);
+  blank = λ e. grind (arith, nat_tests);
+  mark = λ e. grind (arith, common_steps, nat_tests);
+}
 
-pub quote_alone : (b : ℕ) (piece : Option Lexeme) → is_quote b ≡ true → Starts piece b
-    → (value : List ℕ) × (piece ≡ Some (string_literal value))
-quote_alone b piece e f = grind (arith, nat_tests)
-
-pub slash_alone : (b : ℕ) (piece : Option Lexeme) → b ≡ 47 → Starts piece b
-    → (piece ≡ None) ⊎ ((c : ℕ) × (piece ≡ Some (punctuation c)))
-slash_alone b piece e f = grind (arith, nat_tests)
-
-pub blank_alone : (b : ℕ) (piece : Option Lexeme) → is_blank b ≡ true → Starts piece b → piece ≡ None
-blank_alone b piece e f = grind (arith, nat_tests)
-
-pub punctuation_alone : (b : ℕ) (piece : Option Lexeme) → is_punctuation b ≡ true → Starts piece b
-    → ((piece ≡ None) × (b ≡ 47)) ⊎ ((c : ℕ) × (piece ≡ Some (punctuation c)))
-punctuation_alone b piece e f = grind (arith, common_steps, nat_tests)
+pub begun_by : (s : List ℕ) (n : ℕ) (piece : Option Lexeme) → IsPiece s n piece → IsBegunBy (get_or s 0 0) piece
+begun_by s n piece is = begun (get_or s 0 0) piece (starts s n piece is).2
 
 -- a comment begins with `/`
 no_comment : (s : List ℕ) (k : ℕ) → 0 < k → is_blank (get_or s 0 0) ≡ true
@@ -104,30 +75,24 @@ module _ (s : List ℕ) where
       let word : is_word (get_or s 0 0) ≡ true = let f = first.1 in grind (arith, nat_tests) in
       let pos = run_nonempty is_word s (begins_from is_word s first.0 word) in
       let fits = prefix_len-le-length is_word s in
-      let begins_so : begins is_letter (take (prefix_len is_word s) s) ≡ true =
-      grind (arith, begins_from, get_or-take, length-take-le) in
       record {
         fits = fits;
-        piece_is = ((begins_so, run_passes is_word s), refl);
+        piece_is = ((grind (arith, begins_from, get_or-take, length-take-le), run_passes is_word s), refl);
         longest = λ k other lt within is.
-            let same = letter_alone (get_or s 0 0) other first.1 (starts s k other is).2 in
+            let same = (begun_by s k other is).letter first.1 in
             omega (arith, run_longest is_word s k within (rw same.1 at is).0.1);
       }
 
   pub longest_blanks : begins is_blank s ≡ true → IsLongestPiece s (prefix_len is_blank s) None
   longest_blanks e =
-      let first = begins_first is_blank s e in
-      let pos = run_nonempty is_blank s e in
+      let first = begins_first is_blank s e in let pos = run_nonempty is_blank s e in
       let fits = prefix_len-le-length is_blank s in
       record {
         fits = fits;
         piece_is = inl (omega (arith, length-take-le (prefix_len is_blank s) s fits), run_passes is_blank s);
         longest = λ k other lt within is.
-            let same = blank_alone (get_or s 0 0) other first.1 (starts s k other is).2 in
-            elim (rw same at is) [
-              | inl blanks ↦ omega (arith, run_longest is_blank s k within blanks.1)
-              | inr comment ↦ absurd (no_comment s k (omega arith) first.1 comment)
-            ];
+            let same = (begun_by s k other is).blank first.1 in
+            grind (arith, no_comment s k, run_longest is_blank s k within);
       }
 
   pub longest_number : (n : ℕ) → IsNumeral (take (prefix_len is_numeric s) s) n → n < 2 ^ 64
@@ -140,7 +105,7 @@ module _ (s : List ℕ) where
         fits = prefix_len-le-length is_numeric s;
         piece_is = (numeral, small, run_stops is_numeric s);
         longest = λ k other lt within is.
-            let same = digit_alone (get_or s 0 0) other digit (starts s k other is).2 in
+            let same = (begun_by s k other is).digit digit in
             omega (arith, run_longest is_numeric s k within (numeral_numeric _ same.0 (rw same.1 at is).0).0);
       }
 
@@ -168,10 +133,8 @@ module _ (s : List ℕ) where
         fits = omega (arith, first.0);
         piece_is = (one, ap is_punctuation b_is ∙ first.1, alone);
         longest = λ k other lt within is.
-            elim (punctuation_alone (get_or s 0 0) other first.1 (starts s k other is).2) [
-              | inl none ↦ lone_slash s k lt within none.1 (alone (b_is ∙ none.1)) (rw none.0 at is)
-              | inr same ↦ omega (arith, ap length (rw same.1 at is).0, length-take-le k s within)
-            ];
+            let same = (begun_by s k other is).mark first.1 in
+            grind (arith, length-take-le k s, lone_slash s k lt within);
       }
 
 -- ---- comments
@@ -182,9 +145,7 @@ no_blanks bs blanks = let h = All-head (λ b. is_blank b ≡ true) 47 bs blanks 
 none_at : (b : ℕ) (rest : List ℕ) (j : ℕ) → IsPiece (47 ∷ b ∷ rest) (suc (suc j)) None
     → ((b ≡ 47) × AllPass is_in_line (take j rest))
     ⊎ ((b ≡ 42) × (body : List ℕ) × (take j rest ≡ body ++ 42 ∷ 47 ∷ []) × HasNoClose body)
-none_at b rest j (inl blanks) = absurd (no_blanks (b ∷ take j rest) blanks.1)
-none_at b rest j (inr (inl line)) = grind arith
-none_at b rest j (inr (inr block)) = grind arith
+none_at b rest j is = grind (arith, no_blanks)
 
 -- a piece that begins with `//` or `/*` is a comment
 pub comment_at : (b : ℕ) (rest : List ℕ) (k : ℕ) (w : Option Lexeme) → (b ≡ 47) ⊎ (b ≡ 42) → k ≤ length (47 ∷ b ∷ rest)
@@ -193,23 +154,16 @@ pub comment_at : (b : ℕ) (rest : List ℕ) (k : ℕ) (w : Option Lexeme) → (
     ⊎ ((b ≡ 42) × (body : List ℕ) × (take j rest ≡ body ++ 42 ∷ 47 ∷ []) × HasNoClose body))
 comment_at b rest zero w form within is = absurd (omega (arith, (starts (47 ∷ b ∷ rest) 0 w is).0))
 comment_at b rest (suc zero) w form within is =
-    absurd (elim (slash_alone 47 w refl (starts (47 ∷ b ∷ rest) 1 w is).2) [
-      | inl none ↦ let is' = subst (IsPiece (47 ∷ b ∷ rest) 1) none is in grind (arith, no_blanks [])
-      | inr same ↦ let is' = subst (IsPiece (47 ∷ b ∷ rest) 1) same.1 is in grind (arith, nat_tests)
-    ])
+    let first = (begun_by (47 ∷ b ∷ rest) 1 w is).slash refl in grind (arith, nat_tests, no_blanks [])
 comment_at b rest (suc (suc j)) w form within is =
-    elim (slash_alone 47 w refl (starts (47 ∷ b ∷ rest) (suc (suc j)) w is).2) [
-      | inl none ↦ (j, refl, none_at b rest j (subst (IsPiece (47 ∷ b ∷ rest) (suc (suc j))) none is))
-      | inr same ↦ let is' = subst (IsPiece (47 ∷ b ∷ rest) (suc (suc j))) same.1 is in absurd (grind arith)
-    ]
+    let first = (begun_by (47 ∷ b ∷ rest) (suc (suc j)) w is).slash refl in grind (arith, none_at b rest j)
 
 pub longest_line : (body : List ℕ) → IsLongestPiece (47 ∷ 47 ∷ body) (suc (suc (prefix_len is_in_line body))) None
 longest_line body = record {
   fits = omega (arith, prefix_len-le-length is_in_line body);
   piece_is = inr (inl (take (prefix_len is_in_line body) body, refl, run_passes is_in_line body));
   longest = λ k other lt within is.
-      let c = comment_at 47 body k other (inl refl) within is in
-      elim c.2 [ inl line ↦ omega (arith, c.1, run_longest is_in_line body c.0 (omega arith) line.1) | inr block ↦ cc ];
+      grind (arith, comment_at 47 body k other (inl refl) within is, run_longest is_in_line body);
 }
 
 -- where a text has the end of a comment
@@ -219,13 +173,7 @@ pub close_at : (rest : List ℕ) (j : ℕ) (body : List ℕ) → j ≤ length re
 close_at rest j body within e =
     let len = ap length e ∙ length-append body (42 ∷ 47 ∷ []) in
     let size = length-take-le j rest within in
-    let at : (i : ℕ) → i < j → get_or rest i 0 ≡ get_or (body ++ 42 ∷ 47 ∷ []) i 0 =
-    λ i lt. grind (arith, get_or-take) in (
-      omega arith,
-      at (length body) (omega arith) ∙ get_or_at body 42 (47 ∷ []) 0 (length body) refl,
-      at (length body + 1) (omega arith) ∙ get_or-append-add body (42 ∷ 47 ∷ []) 1 0,
-      λ i lt. grind (arith, get_or_append_left),
-    )
+    grind (arith, get_or-take, get_or_at, get_or-append-add, get_or_append_left)
 
 module _ (rest : List ℕ) (m : ℕ) (close : IsFirstClose rest m) where
   close_ends : take (suc (suc m)) rest ≡ take m rest ++ 42 ∷ 47 ∷ []
@@ -237,21 +185,14 @@ module _ (rest : List ℕ) (m : ℕ) (close : IsFirstClose rest m) where
   no_longer_block : (j : ℕ) (body : List ℕ) → suc (suc m) < j → j ≤ length rest → take j rest ≡ body ++ 42 ∷ 47 ∷ []
       → HasNoClose body → ⊥
   no_longer_block j body lt within e none =
-      let at = close_at rest j body within e in
-      let before = at.3 m in
-      let behind = at.3 (m + 1) in
-      elim (cases_lt (m + 1) (length body)) [ inl inside ↦ grind arith | inr past ↦ grind arith ]
+      let at = close_at rest j body within e in grind (arith, at.3 m, at.3 (m + 1), cases_lt (m + 1) (length body))
 
   pub longest_block : IsLongestPiece (47 ∷ 42 ∷ rest) (suc (suc (suc (suc m)))) None
   longest_block = record {
     fits = omega (arith, close.fits);
     piece_is = inr (inr (take m rest, ap (λ (l : List ℕ). 47 ∷ 42 ∷ l) close_ends, no_close_before));
     longest = λ k other lt within is.
-        let c = comment_at 42 rest k other (inr refl) within is in
-        elim c.2 [
-          | inl line ↦ cc
-          | inr block ↦ no_longer_block c.0 block.1 (omega (arith, c.1)) (omega (arith, c.1)) block.2 block.3
-        ];
+        grind (arith, comment_at 42 rest k other (inr refl) within is, no_longer_block);
   }
 
 -- ---- where a source may be cut
@@ -259,17 +200,20 @@ module _ (rest : List ℕ) (m : ℕ) (close : IsFirstClose rest m) where
 pub identifier_boundary : (source : List ℕ) (at : ℕ) → IsUtf8 source → begins is_letter (drop at source) ≡ true
     → IsCharBoundary source (at + prefix_len is_word (drop at source))
 identifier_boundary source at utf8 e =
-    let s = drop at source in
-    let n = prefix_len is_word s in
-    let first = begins_first is_letter s e in
-    let pos : 0 < n = run_nonempty is_word s
-    (begins_from is_word s first.0 (let f = first.1 in grind (arith, nat_tests))) in
-    let fits = prefix_len-le-length is_word s in
-    let last : is_word (get_or source (at + (n - 1)) 0) ≡ true =
-    ap is_word (sym (get_or-drop at source (n - 1) 0)) ∙ prefix_len_passes is_word s (n - 1) 0 (omega arith) in
-    let ascii : get_or source (at + (n - 1)) 0 < 128 = grind (arith, nat_tests) in
-    let same : at + n ≡ at + (n - 1) + 1 = omega arith in
-    rw same (IsCharBoundary-after_ascii source (at + (n - 1)) utf8 (omega (arith, length-drop at source)) ascii)
+    let n = prefix_len is_word (drop at source) in
+    let last = prefix_len_passes is_word (drop at source) (n - 1) 0 in
+    let after_last = IsCharBoundary-after_ascii source (at + (n - 1)) utf8 in
+    grind (
+      arith,
+      after_last,
+      begins_first,
+      begins_from,
+      get_or-drop,
+      length-drop,
+      nat_tests,
+      prefix_len-le-length,
+      run_nonempty,
+    )
 
 -- ---- comments and punctuation, as the code finds them
 
@@ -291,12 +235,9 @@ block_found s m long first second close =
     grind arith
 
 -- a byte that no `/` or `*` follows
-pub alone_short : (s : List ℕ) → length s < 2 → begins is_slash_or_star (drop 1 s) ≡ false
-alone_short s long = grind arith
-
-pub alone_other : (s : List ℕ) → 2 ≤ length s → get_or s 1 0 ≢ 47 → get_or s 1 0 ≢ 42
+pub alone_here : (s : List ℕ) → (1 < length s → (get_or s 1 0 ≢ 47) × (get_or s 1 0 ≢ 42))
     → begins is_slash_or_star (drop 1 s) ≡ false
-alone_other s long no_slash no_star = grind (arith, nat_tests)
+alone_here s none = grind (arith, nat_tests)
 
 pub fault_here : (s rest : List ℕ) (at : ℕ) (kind : Kind) (e : TokenError) → rest ≡ s → IsPieceFault rest 0 kind
     → e ≡ errors.At (record { offset = at }) kind

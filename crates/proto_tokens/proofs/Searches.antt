@@ -1,15 +1,6 @@
 -- What the searches for a byte and for the end of a block comment find.
-use Rattle.std.proofs.Common.{◌≡◌, ℕ, ◌+◌, true, List, [], ◌∷◌, Option, Some, None, length, get_or, sym, arith, add-zero}
-use Rattle.std.specs.Prelude.{MatchOption}
-use Rattle.std.specs.List.{prefix_len}
-use Rattle.std.specs.Option.{unwrap_or}
-use Rattle.std.proofs.lemmas.Bool.{false_from_ne_true, not_from_false, not_from_true}
-use Rattle.std.proofs.lemmas.List.{get_or_past}
-use Rattle.std.proofs.lemmas.List.Sums.{prefix_len_is}
+use Rattle.proto_tokens.proofs.Common.{◌≡◌, ℕ, ◌+◌, true, List, [], ◌∷◌, Option, Some, None, length, get_or, arith, add-zero, MatchOption, unwrap_or, prefix_len, false_from_ne_true, not_from_false, not_from_true, get_or_past, prefix_len_is, is_in_line, HasNoClose, IsFirstClose}
 use Rattle.memchr.specs.Find.{IsFirstByte, is_byte, FindsNeedle, OccursAt}
-use Rattle.proto_tokens.specs.Bytes.{is_in_line}
-use Rattle.proto_tokens.specs.Piece.{HasNoClose}
-use Rattle.proto_tokens.specs.Steps.{IsFirstClose}
 
 -- a byte that is no LF stands in a line
 stays : (b : ℕ) → (is_byte 10 b ≡ true → ⊥) → is_in_line b ≡ true
@@ -18,9 +9,7 @@ stays b differs = not_from_false (is_byte 10 b) (false_from_ne_true (is_byte 10 
 -- a line ends at its first LF, or where the text ends
 pub line_ends : (s : List ℕ) (r : Option ℕ) → IsFirstByte (is_byte 10) s r
     → unwrap_or r (length s) ≡ prefix_len is_in_line s
-line_ends s None none =
-    sym (prefix_len_is is_in_line s (length s) 0 (omega arith)
-    (λ k lt. stays (get_or s k 0) (none k (omega arith) lt)) (λ lt. absurd (omega arith)))
+line_ends s None none = grind (arith, stays, prefix_len_is is_in_line s (length s) 0)
 line_ends s (Some n) found = grind (arith, not_from_true, prefix_len_is, stays)
 
 -- `*` and `/` behind it are the needle
@@ -31,8 +20,7 @@ close_occurs s i star slash =
 -- what a search for `*/` finds is its first place
 pub close_found : (s : List ℕ) (r : Option ℕ) → FindsNeedle s (42 ∷ 47 ∷ []) 0 r
     → MatchOption r (HasNoClose s) (IsFirstClose s)
-close_found s None none = λ i star slash.
-    let here = close_occurs s i star slash in none i (omega arith) (omega (arith, here.fits)) here
+close_found s None none = λ i star slash. grind (arith, close_occurs s i star slash, none i)
 close_found s (Some n) found = record {
   fits = omega (arith, found.1.fits);
   star = rw add-zero at (found.1.reads 0 (omega arith));

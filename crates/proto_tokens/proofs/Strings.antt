@@ -1,28 +1,13 @@
 -- Strings, part after part.
-use Rattle.std.proofs.Common.{◌≡◌, ℕ, zero, suc, ◌+◌, ◌<◌, ◌≤◌, true, false, Some, List, [], ◌∷◌, ◌++◌, length, get_or, take, drop, ◌⊎◌, refl, sym, ap, subst, ◌∙◌, inl, inr, arith, append_assoc, length-take-le, length-drop, get_or-take, add-zero, zero-add}
-use Rattle.std.specs.Prelude.{slice_range}
-use Rattle.std.proofs.Math.Seq.{take-suc}
-use Rattle.std.specs.List.{prefix_len}
-use Rattle.std.proofs.lemmas.Bool.{both_ways}
-use Rattle.std.proofs.lemmas.Bool.Decides.{nat_tests}
-use Rattle.std.proofs.lemmas.List.{drop_more, append-nil, get_or-drop, flat_map_more}
-use Rattle.std.proofs.lemmas.List.Sums.{prefix_len-le-length, prefix_len_passes}
+use Rattle.proto_tokens.proofs.Common.{◌≡◌, ℕ, zero, suc, ◌+◌, ◌<◌, ◌≤◌, true, false, Some, List, [], ◌∷◌, ◌++◌, length, get_or, take, drop, ◌⊎◌, refl, sym, ap, subst, ◌∙◌, inl, inr, arith, append_assoc, length-take-le, length-drop, get_or-take, add-zero, zero-add, slice_range, take-suc, append-nil, get_or-drop, IsCharBoundary, IsUtf8, prefix_len, both_ways, nat_tests, drop_more, flat_map_more, prefix_len-le-length, prefix_len_passes, TokenError, is_quote, begins, IsCharBoundary-after_ascii, string_literal, IsPiece, IsLongestPiece, HasNoEscape, IsClosed, IsFaultAfter}
 use Rattle.proto_base.specs.declared.kind.Kind.TheVariants as kinds
-use Rattle.proto_tokens.specs.declared.token.TokenError.{TokenError}
 use Rattle.proto_tokens.specs.declared.token.TokenError.TheVariants as errors
-use Rattle.proto_tokens.specs.Bytes.{is_quote, begins}
-use Rattle.std.specs.Str.{IsCharBoundary}
-use Rattle.std.proofs.lemmas.Str.{IsCharBoundary-after_ascii}
 use Rattle.proto_tokens.specs.Cut.{IsCutInto}
-use Rattle.proto_tokens.specs.Quoted.{IsOpened, Part, IsPart, HasByteAt, IsString, is_plain, value_of}
-use Rattle.proto_tokens.specs.Token.{string_literal}
-use Rattle.proto_tokens.specs.Piece.{IsPiece, IsLongestPiece}
-use Rattle.std.specs.Str.{IsUtf8}
-use Rattle.proto_tokens.specs.Escape.{Escaped, IsLongestEscape, IsAllowedEscape, escaped_bytes}
-use Rattle.proto_tokens.specs.Steps.{HasNoEscape, IsClosed, IsFaultAfter}
+use Rattle.proto_tokens.specs.Quoted.{IsOpened, Part, IsPart, IsPartFault, HasByteAt, IsString, is_plain, value_of}
+use Rattle.proto_tokens.specs.Escape.{Escaped, IsAllowedEscape, escaped_bytes}
 use Rattle.proto_tokens.proofs.CutLemmas.{cut_more, cut_one}
 use Rattle.proto_tokens.proofs.Escapes.{escape_begins, escape_one}
-use Rattle.proto_tokens.proofs.Pieces.{starts, quote_alone}
+use Rattle.proto_tokens.proofs.Pieces.{begun_by}
 
 -- behind the quote the bytes up to a place have this value
 pub record IsReadUpTo (quote : ℕ) (after value : List ℕ) (end : ℕ) : Type 0 where
@@ -101,11 +86,8 @@ no_part quote after end b at off none p is =
 
 -- ---- one cutting alone
 
-pub same_longest : (s : List ℕ) (m n : ℕ) (d e : Escaped) → IsLongestEscape s m d → IsLongestEscape s n e → m ≡ n
-same_longest s m n d e a b = grind arith
-
 part_one : (quote : ℕ) (s : List ℕ) (p q : Part) → IsPart quote s p → IsPart quote s q → p ≡ q
-part_one quote s p q a b = grind (arith, both_ways, escape_first, escape_one, not_plain, same_longest)
+part_one quote s p q a b = grind (arith, both_ways, escape_first, escape_one, not_plain)
 
 pub opened_one : {s a b : List ℕ} {q r m n : ℕ} {ps qs : List Part} → IsOpened s q a ps m → IsOpened s r b qs n
     → ((p : Part) → IsPart q (drop m a) p → ⊥) → ((p : Part) → IsPart r (drop n b) p → ⊥)
@@ -134,7 +116,7 @@ longest_string s n value is = record {
   piece_is = is;
   longest = λ k other lt within other_is.
       let first : is_quote (get_or s 0 0) ≡ true = rw is.4.begins_so is.4.quote_is in
-      let same = quote_alone (get_or s 0 0) other first (starts s k other other_is).2 in
+      let same = (begun_by s k other other_is).quote first in
       omega (arith, (string_one s n k value same.0 is (subst (IsPiece s k) same.1 other_is)).0);
 }
 
@@ -155,18 +137,10 @@ module _ (source bytes after : List ℕ) (at : ℕ) (lt : at < length source) (s
       → IsFaultAfter (drop at source) at e
   not_text value end e closed no_text e_is =
       let no : IsUtf8 (value_of closed.0) → ⊥ = λ utf8. let h = no_text (rw closed.3 utf8) in cc in
-      rw (e_is, quote_here) (
-        0,
-        inr (inr (inr (inr (
-          get_or bytes at 0,
-          after,
-          closed.0,
-          end,
-          closed.1,
-          inr (inl (refl, refl, closed.2, no)),
-        )))),
-        sym (add-zero at),
-      )
+      let fault : IsPartFault (get_or bytes at 0) after closed.0 end 0 kinds.BadEscape =
+      inr (inl (refl, refl, closed.2, no)) in
+      rw (e_is, quote_here)
+      (0, inr (inr (inr (inr (get_or bytes at 0, after, closed.0, end, closed.1, fault)))), sym (add-zero at))
 
   -- a string without escapes
   pub plain_string : (n : ℕ) (text : List ℕ) → begins is_quote (drop at source) ≡ true
@@ -200,15 +174,6 @@ no_escape_here quote after value behind end at e quote_is so_far lt backslash be
     let here : drop end after ≡ 92 ∷ behind = drop_more after end 0 lt ∙ rw (backslash, behind_is) refl in
     let no = no_part quote after end 92 (lt, backslash) (not_plain quote 92 refl) (λ b. rw here none) in
     let opened = opened_by quote after value end quote_is so_far in
-    rw e_is (
-      end + 1,
-      inr (inr (inr (inr (
-        quote,
-        after,
-        so_far.parts,
-        end,
-        opened,
-        inl (refl, refl, (lt, backslash), no),
-      )))),
-      refl,
-    )
+    let fault : IsPartFault quote after so_far.parts end (end + 1) kinds.BadEscape =
+    inl (refl, refl, (lt, backslash), no) in
+    rw e_is (end + 1, inr (inr (inr (inr (quote, after, so_far.parts, end, opened, fault)))), refl)

@@ -1,32 +1,16 @@
 -- A text has one list of tokens or one fault.
-use Rattle.std.proofs.lemmas.Grind.{common_steps}
-use Rattle.std.proofs.Common.{◌≡◌, ℕ, ◌<◌, ◌≤◌, ◌⊎◌, true, false, Option, None, Some, List, [], ◌∷◌, length, get_or, take, drop, refl, sym, ap, subst, ◌∙◌, inl, inr, arith, length-take-le, length-drop, get_or-take}
-use Rattle.std.specs.List.{AllPass, prefix_len}
-use Rattle.std.specs.Char.{is_ascii_digit, is_ascii_graphic}
-use Rattle.std.proofs.lemmas.Bool.{both_ways}
-use Rattle.std.proofs.lemmas.List.{drop_all}
-use Rattle.std.specs.Str.{IsUtf8}
-use Rattle.proto_base.specs.declared.kind.Kind.{Kind}
+use Rattle.proto_tokens.proofs.Common.{common_steps, ◌≡◌, ℕ, ◌≤◌, ◌⊎◌, true, false, Option, None, Some, List, [], ◌∷◌, length, get_or, take, drop, refl, sym, ap, subst, ◌∙◌, inl, inr, arith, length-take-le, length-drop, get_or-take, IsUtf8, Result, Ok, Err, MatchResult, IsErrAnd, AllPass, prefix_len, is_ascii_digit, is_ascii_graphic, both_ways, drop_all, Kind, nat_tests, All-head, All-get_or, begins, is_blank, is_quote, is_numeric, Writes, IsNumeral, Lexeme, identifier, number, string_literal, punctuation, Spelled, tokens_of, IsUnclosedComment, IsPiece, IsLongestPiece, IsPieceFault, IsBadNumber, IsTooBig, HasNoClose, TokenError}
 use Rattle.proto_base.specs.declared.kind.Kind.TheVariants as kinds
-use Rattle.std.proofs.lemmas.Bool.Decides.{nat_tests}
-use Rattle.std.proofs.lemmas.List.Elements.{All-head, All-get_or}
-use Rattle.proto_tokens.specs.Bytes.{begins, is_blank, is_quote, is_numeric}
-use Rattle.proto_tokens.specs.Numeral.{Writes, IsNumeral}
 use Rattle.proto_tokens.specs.Quoted.{Part, IsPart, HasByteAt, IsString, IsStringFault, IsPartFault, value_of}
-use Rattle.proto_tokens.specs.Token.{Lexeme, identifier, number, string_literal, punctuation, Spelled}
-use Rattle.proto_tokens.specs.ProgramTokens.{tokens_of}
-use Rattle.proto_tokens.specs.Piece.{IsUnclosedComment, IsPiece, IsLongestPiece, IsPieceFault, IsBadNumber, IsTooBig, HasNoClose}
 use Rattle.proto_tokens.specs.Spelling.{Piece, tokens_from, HasPieceFault, IsTokenList, IsFault, mark_len}
 use Rattle.proto_tokens.specs.Told.{IsFaultOf, TellsFault}
 use Rattle.proto_tokens.specs.declared.token.Tokens.{Tokens}
-use Rattle.std.specs.Prelude.{Result, Ok, Err, MatchResult, IsErrAnd}
-use Rattle.proto_tokens.specs.declared.token.TokenError.{TokenError}
 use Rattle.proto_tokens.specs.declared.token.TokenError.TheVariants as errors
 use Rattle.proto_tokens.proofs.Escapes.{escape_begins}
 use Rattle.proto_tokens.proofs.Strings.{opened_one, string_one, no_part_at_quote, no_part}
 use Rattle.proto_tokens.proofs.CutLemmas.{cut_one}
 use Rattle.proto_tokens.proofs.Runs.{begins_first, run_longest, within_run}
-use Rattle.proto_tokens.proofs.Pieces.{Starts, starts, numeral_numeric, comment_at, close_at, letter_alone, digit_alone, quote_alone, punctuation_alone}
+use Rattle.proto_tokens.proofs.Pieces.{starts, numeral_numeric, comment_at, close_at, begun_by}
 
 -- ---- numerals
 
@@ -77,16 +61,16 @@ none_mark s n c (inl blanks) b =
 none_mark s n c (inr comment) b = grind arith
 
 lexeme_one : (s : List ℕ) (n : ℕ) (l : Lexeme) (w : Option Lexeme) → IsPiece s n (Some l) → IsPiece s n w → w ≡ Some l
-lexeme_one s n (identifier name) w a b = grind (arith, common_steps, letter_alone, starts)
+lexeme_one s n (identifier name) w a b = grind (arith, common_steps, (begun_by s n w b).letter, starts)
 lexeme_one s n (number v) w a b =
-    let same = digit_alone (get_or s 0 0) w (starts s n (Some (number v)) a).2 (starts s n w b).2 in
+    let same = (begun_by s n w b).digit (starts s n (Some (number v)) a).2 in
     same.1 ∙ ap (λ (x : ℕ). Some (number x)) (numeral_one (take n s) same.0 v (rw same.1 at b).0 a.0)
 lexeme_one s n (string_literal v) w a b =
-    let same = quote_alone (get_or s 0 0) w (starts s n (Some (string_literal v)) a).2 (starts s n w b).2 in
+    let same = (begun_by s n w b).quote (starts s n (Some (string_literal v)) a).2 in
     same.1 ∙ ap (λ (l : List ℕ). Some (string_literal l)) (string_one s n n same.0 v (rw same.1 at b) a).1
 lexeme_one s n (punctuation c) w a b =
-    elim (punctuation_alone (get_or s 0 0) w (starts s n (Some (punctuation c)) a).2 (starts s n w b).2) [
-      | inl none ↦ absurd (none_mark s n c (subst (IsPiece s n) none.0 b) a)
+    elim ((begun_by s n w b).mark (starts s n (Some (punctuation c)) a).2) [
+      | inl none ↦ absurd (none_mark s n c (rw none.0 at b) a)
       | inr same ↦ grind arith
     ]
 
@@ -131,12 +115,6 @@ too_big_digit s big = grind (arith, nat_tests, begins_first, get_or-take, length
 piece_fault_case : (s : List ℕ) (at : ℕ) (kind : Kind) → IsPieceFault s at kind → PieceFaultCase s at kind
 piece_fault_case s at kind fault = grind (arith, begins_first, too_big_digit)
 
-no_number_both : (s : List ℕ) → IsBadNumber s → IsTooBig s → ⊥
-no_number_both s bad big = both_ways (begins is_numeric (drop big.0 s)) big.4 (bad.1 big.0 big.1 big.2 big.3)
-
-no_start : (w : Option Lexeme) (b : ℕ) → is_blank b ≡ false → is_ascii_graphic b ≡ false → Starts w b → ⊥
-no_start w b e f g = grind (arith, both_ways, nat_tests)
-
 fault_long : (s : List ℕ) (at : ℕ) (kind : Kind) → IsPieceFault s at kind → s ≡ [] → ⊥
 fault_long s at kind fault empty = grind (arith, begins_first, length-take-le, numeral_numeric)
 
@@ -149,7 +127,8 @@ fault_case_one b m n j k Bad Big Open InString apart one x y = grind (arith, nat
 pub piece_fault_one : (s : List ℕ) (m n : ℕ) (j k : Kind) → IsPieceFault s m j → IsPieceFault s n k → (m ≡ n) × (j ≡ k)
 piece_fault_one s m n j k a b =
     fault_case_one (get_or s 0 0) m n j k (IsBadNumber s) (IsTooBig s) (IsUnclosedComment s) (IsStringFault s)
-    (no_number_both s) (string_fault_one s m n j k) (piece_fault_case s m j a) (piece_fault_case s n k b)
+    (λ bad big. both_ways _ big.4 (bad.1 big.0 big.1 big.2 big.3)) (string_fault_one s m n j k)
+    (piece_fault_case s m j a) (piece_fault_case s n k b)
 
 -- a prefix of numeric bytes that no such byte follows is the whole run
 whole_run : (s : List ℕ) (k : ℕ) → k ≤ length s → AllPass is_numeric (take k s) → begins is_numeric (drop k s) ≡ false
@@ -175,18 +154,18 @@ no_comment_open rest n w none within is =
 
 no_piece_in_case : (s : List ℕ) (at : ℕ) (kind : Kind) (n : ℕ) (w : Option Lexeme) → n ≤ length s → IsPiece s n w
     → PieceFaultCase s at kind → ⊥
-no_piece_in_case s at kind n w within is (inl bad) = no_start w (get_or s 0 0) bad.0 bad.1 (starts s n w is).2
+no_piece_in_case s at kind n w within is (inl bad) = grind (arith, both_ways, nat_tests, starts s n w is)
 no_piece_in_case s at kind n w within is (inr (inl bad)) =
-    let same = digit_alone (get_or s 0 0) w bad.0 (starts s n w is).2 in
+    let same = (begun_by s n w is).digit bad.0 in
     let number_is = rw same.1 at is in
     both_ways (begins is_numeric (drop n s)) number_is.2 (bad.1.1 n same.0 within number_is.0)
 no_piece_in_case s at kind n w within is (inr (inr (inl big))) =
-    let same = digit_alone (get_or s 0 0) w big.0 (starts s n w is).2 in
+    let same = (begun_by s n w is).digit big.0 in
     no_small_number s n same.0 within big.1 (subst (IsPiece s n) same.1 is)
 no_piece_in_case s at kind n w within is (inr (inr (inr (inl (slash, opened, kind_is, at_is))))) =
     no_comment_open opened.0 n w opened.2 (rw opened.1 at within) (rw opened.1 at is)
 no_piece_in_case s at kind n w within is (inr (inr (inr (inr fault)))) =
-    let same = quote_alone (get_or s 0 0) w fault.0 (starts s n w is).2 in
+    let same = (begun_by s n w is).quote fault.0 in
     no_string s n at same.0 kind (subst (IsPiece s n) same.1 is) fault.1
 
 -- where a fault lies no piece can be made
@@ -227,19 +206,9 @@ tokens_no_fault limit s ts place kind a (inr (inr fault)) =
     (λ p. no_piece_at_fault (drop y.1 s) y.2 kind p y.4) in
     fault_long (drop y.1 s) y.2 kind y.4 (drop_all y.1 s (omega (arith, one.1)))
 
-abbrev FileCase : ℕ → ℕ → ℕ → Type 0 → (ℕ → Kind → Type 0) → ℕ → Kind → Type 0
-FileCase limit len end Utf8 Fault place kind = ((kind ≡ kinds.FileTooLong) × (place ≡ 0) × (limit < len))
-    ⊎ (((kind ≡ kinds.NotUtf8) × (place ≡ end) × (len ≤ limit) × ¬ Utf8) ⊎ ((len ≤ limit) × Utf8 × Fault place kind))
-
-file_case_one : (limit len end m n : ℕ) (j k : Kind) (Utf8 : Type 0) (Fault : ℕ → Kind → Type 0)
-    → (Fault m j → Fault n k → (m ≡ n) × (j ≡ k)) → FileCase limit len end Utf8 Fault m j
-    → FileCase limit len end Utf8 Fault n k → (m ≡ n) × (j ≡ k)
-file_case_one limit len end m n j k Utf8 Fault one a b = grind arith
-
 pub file_fault_one : (limit : ℕ) (s : List ℕ) (m n : ℕ) (j k : Kind) → IsFault limit s m j → IsFault limit s n k
     → (m ≡ n) × (j ≡ k)
-file_fault_one limit s m n j k = file_case_one limit (length s) _ m n j k (IsUtf8 s) (HasPieceFault s (mark_len s))
-    (fault_one s (mark_len s) m n j k)
+file_fault_one limit s m n j k a b = grind (arith, fault_one s (mark_len s) m n j k)
 
 -- what an answer that is right says of every spelling and of every fault
 

@@ -1,3 +1,4 @@
+mod Common
 mod Meanings
 mod Recalls
 pub mod Walking

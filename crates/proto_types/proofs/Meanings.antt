@@ -1,22 +1,15 @@
 -- The faults of one reference, by what its name means.
-use Rattle.std.proofs.Common.{arith, ◌≡◌, ℕ, List, inl, inr, Option, Some, None}
+use Rattle.proto_types.proofs.Common.{arith, ◌≡◌, ℕ, List, inl, inr, Option, Some, None, least_none, least_same, least_one, Occurrence, IsType, Resolves, ResolvesNowhere, Reference, ReferenceBreaks, IsMeaning, IsNaming, IsPackedFault, SetsPacked, type_kind_of, Meaning, named_by}
 use Rattle.proto_base.specs.declared.kind.Kind.TheVariants as kind
 use Rattle.proto_desc.specs.declared.name_kind.NameKind.{NameKind}
 use Rattle.proto_desc.specs.declared.name_kind.NameKind.TheVariants as name_kind
 use Rattle.proto_base.specs.Least.{IsLeast, spot}
 use Rattle.proto_base.specs.Sets.{Each}
 use Rattle.proto_base.specs.declared.spot.Spot.{Spot}
-use Rattle.proto_base.proofs.Sets.{least_none, least_same, least_one}
-use Rattle.proto_names.specs.Occurrences.{Occurrence}
-use Rattle.proto_names.specs.Resolution.{IsType, Resolves, ResolvesNowhere}
 use Rattle.proto_names.specs.Resolution.IsType.{message, enumeration}
 use Rattle.proto_names.specs.declared.resolve.Want.TheVariants as want
 use Rattle.proto_names.proofs.Unique.{resolves_one}
-use Rattle.proto_types.specs.References.{Reference, ReferenceBreaks}
-use Rattle.proto_types.specs.Steps.{IsMeaning, IsNaming, IsPackedFault, SetsPacked, type_kind_of}
-use Rattle.proto_types.specs.declared.meaning.Meaning.{Meaning}
 use Rattle.proto_types.specs.declared.meaning.Meaning.TheVariants.{Named, Wrong}
-use Rattle.proto_types.specs.Typed.{named_by}
 
 module _ (os : List Occurrence) (Seen : ℕ → Type 0) where
   -- a name of a message names no enum

@@ -1,22 +1,15 @@
 -- What is recalled of a scope, and what it says of a field's type.
-use Rattle.std.proofs.Common.{arith, ◌≡◌, inl, inr, ℕ, List, [], ◌∷◌, Option, Some, None, Bool, true, refl, All, bytes_eq, find}
+use Rattle.proto_types.proofs.Common.{arith, ◌≡◌, inl, inr, ℕ, List, [], ◌∷◌, Option, Some, None, Bool, true, refl, All, bytes_eq, find, Occurrence, IsType, Resolves, scoped, AreRecalled, IsMeaningBy, IsNamed, Remembers, reference_to, IsMeaning, Meaning}
 use Rattle.std.proofs.lemmas.List.Elements.{All-cons, All-head, All-nil, All-push, All-tail}
 use Rattle.std.proofs.lemmas.Slice.Eq.{bytes_eq-Decides}
 use Rattle.std.proofs.lemmas.Option.{none-some}
-use Rattle.proto_names.specs.Occurrences.{Occurrence}
 use Rattle.proto_names.specs.declared.resolve.FoundType.{FoundType}
-use Rattle.proto_names.specs.Resolution.{IsType, Resolves}
 use Rattle.proto_names.specs.Resolution.IsType.{message, enumeration}
 use Rattle.proto_names.specs.declared.resolve.Want.{Want}
 use Rattle.proto_names.specs.declared.resolve.Want.TheVariants as want
-use Rattle.proto_desc.specs.DeclaredNames.{scoped}
 use Rattle.proto_desc.specs.declared.name_kind.NameKind.{NameKind}
 use Rattle.proto_desc.specs.declared.options.OptionDesc.{OptionDesc}
 use Rattle.proto_base.specs.declared.place.Place.{Place}
-use Rattle.proto_types.specs.Recalling.{AreRecalled, IsMeaningBy, IsNamed, Remembers}
-use Rattle.proto_types.specs.References.{reference_to}
-use Rattle.proto_types.specs.Steps.{IsMeaning}
-use Rattle.proto_types.specs.declared.meaning.Meaning.{Meaning}
 use Rattle.proto_types.specs.declared.recalled.Recalled.{Recalled}
 use Rattle.proto_types.proofs.Meanings.{naming_means, not_found, not_message}
 

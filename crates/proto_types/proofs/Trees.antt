@@ -1,21 +1,15 @@
 -- Trees of messages.
-use Rattle.std.proofs.Common.{arith, ◌≡◌, ◌∙◌, ap, ℕ, List, [], ◌∷◌, ◌++◌, Bool, true, refl, flat_map}
+use Rattle.proto_types.proofs.Common.{arith, ◌≡◌, ◌∙◌, ap, ℕ, List, [], ◌∷◌, ◌++◌, Bool, true, refl, flat_map, AllZip, list_all, out-MessageDesc, roll-MessageDesc, out-roll-MessageDesc, Occurrence, scope_in, Reference, field_scope, references_of_field, references_step, references_by_message, IsTypedField, IsTypedMessage, AreTypedMessages, IsTypedMethod, IsTypedService, IsTypedIn}
 use Rattle.std.proofs.lemmas.List.Folds.{flat_map-map}
-use Rattle.std.specs.List.{AllZip, list_all}
 use Rattle.proto_desc.specs.Resolved.{field_resolved, message_resolved, method_resolved, service_resolved, file_resolved}
 use Rattle.proto_desc.specs.declared.field.FieldDesc.{FieldDesc}
 use Rattle.proto_desc.specs.declared.file.FileDesc.{FileDesc}
 use Rattle.proto_desc.specs.declared.message.MessageDesc.{MessageDesc}
-use Rattle.proto_desc.specs.declared.message.MessageDesc.TheViews.{out-MessageDesc, roll-MessageDesc, out-roll-MessageDesc}
 use Rattle.proto_desc.specs.declared.message.MessageDesc.TheOpen.{MessageDesc-F}
 use Rattle.proto_desc.specs.declared.message.MessageDesc.TheFolds.{fold_out-MessageDesc}
 use Rattle.proto_desc.specs.declared.service.MethodDesc.{MethodDesc}
 use Rattle.proto_desc.specs.declared.service.ServiceDesc.{ServiceDesc}
-use Rattle.proto_names.specs.Occurrences.{Occurrence}
-use Rattle.proto_desc.proofs.Declared.{scope_in}
 use Rattle.proto_desc.proofs.Resolves.{message_resolved_out}
-use Rattle.proto_types.specs.References.{Reference, field_scope, references_of_field, references_step, references_by_message}
-use Rattle.proto_types.specs.Typed.{IsTypedField, IsTypedMessage, AreTypedMessages, IsTypedMethod, IsTypedService, IsTypedIn}
 use Rattle.proto_types.specs.Typed.IsTypedMessage.{message}
 use Rattle.proto_types.specs.Typed.AreTypedMessages.{none, more}
 

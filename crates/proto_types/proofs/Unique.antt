@@ -1,23 +1,17 @@
 -- The same occurrences, as far as they are seen, give one file with its types resolved.
-use Rattle.std.proofs.Common.{arith, ◌≡◌, ℕ, List, ◌∷◌, refl, inl, inr}
-use Rattle.std.specs.List.{AllZip}
+use Rattle.proto_types.proofs.Common.{arith, ◌≡◌, ℕ, List, ◌∷◌, refl, inl, inr, AllZip, out-MessageDesc, roll-out-MessageDesc, Occurrence, AreSeenAlike, Reference, ReferenceBreaks, TypesBreak, field_scope, named_by, IsTyped, IsTypedField, IsTypedBody, IsTypedMessage, AreTypedMessages, IsTypedMethod, IsTypedService, IsTypedIn}
 use Rattle.proto_base.specs.declared.spot.Spot.{Spot}
 use Rattle.proto_desc.specs.declared.field.FieldDesc.{FieldDesc}
 use Rattle.proto_desc.specs.declared.file.FileDesc.{FileDesc}
 use Rattle.proto_desc.specs.declared.message.MessageDesc.{MessageDesc}
 use Rattle.proto_desc.specs.declared.message.MessageDesc.TheOpen.{MessageDesc-F}
-use Rattle.proto_desc.specs.declared.message.MessageDesc.TheViews.{out-MessageDesc, roll-out-MessageDesc}
 use Rattle.proto_desc.specs.declared.name_kind.NameKind.TheVariants as name_kind
 use Rattle.proto_desc.specs.declared.service.MethodDesc.{MethodDesc}
 use Rattle.proto_desc.specs.declared.service.ServiceDesc.{ServiceDesc}
 use Rattle.proto_desc.specs.declared.type_name.TypeKind.{TypeKind}
 use Rattle.proto_desc.specs.declared.type_name.TypeReference.{TypeReference}
 use Rattle.proto_desc.specs.declared.type_name.TypeReference.TheVariants.{Spelled, Resolved}
-use Rattle.proto_names.specs.Occurrences.{Occurrence}
-use Rattle.proto_names.specs.SeenAlike.{AreSeenAlike}
 use Rattle.proto_names.proofs.Unique.{resolves_alike, resolves_same, nowhere_alike}
-use Rattle.proto_types.specs.References.{Reference, ReferenceBreaks, TypesBreak, field_scope}
-use Rattle.proto_types.specs.Typed.{named_by, IsTyped, IsTypedField, IsTypedBody, IsTypedMessage, AreTypedMessages, IsTypedMethod, IsTypedService, IsTypedIn}
 use Rattle.proto_types.specs.Typed.IsTypedMessage.{message}
 use Rattle.proto_types.specs.Typed.AreTypedMessages.{none, more}
 

@@ -1,18 +1,10 @@
 -- What walks over references find and put, one behind another.
-use Rattle.std.proofs.Common.{inr, ◌≡◌, ◌∙◌, sym, ℕ, ◌+◌, ◌<◌, ◌≤◌, List, [], ◌∷◌, ◌++◌, append_assoc, ap, arith, get_or, get_or-set_other, le_refl, length, length-set, refl, set, take, append-nil, Some, None}
+use Rattle.proto_types.proofs.Common.{inr, ◌≡◌, ◌∙◌, sym, ℕ, ◌+◌, ◌<◌, ◌≤◌, List, [], ◌∷◌, ◌++◌, append_assoc, ap, arith, get_or, get_or-set_other, le_refl, length, length-set, refl, set, take, append-nil, Some, None, AllZip, lesser_none, none_of, Occurrence, IsSeen, Reference, ReferenceBreaks, Adds, AreFilled, AreFound, Finds, IsFilled, IsMeaning, Puts, Means, Meaning}
 use Rattle.std.proofs.lemmas.List.{take_more, take_more_set}
 use Rattle.std.proofs.lemmas.List.Concat.{flat_map-append}
-use Rattle.std.specs.List.{AllZip}
 use Rattle.std.proofs.lemmas.Slice.Zip.{all_zipped_more}
 use Rattle.proto_base.proofs.Among.{least_append, least_nil, least_single}
-use Rattle.proto_base.proofs.Sets.{lesser_none, none_of}
-use Rattle.proto_names.specs.Occurrences.{Occurrence}
-use Rattle.proto_names.specs.SeenAlike.{IsSeen}
-use Rattle.proto_types.specs.References.{Reference, ReferenceBreaks}
-use Rattle.proto_types.specs.Steps.{Adds, AreFilled, AreFound, Finds, IsFilled, IsMeaning, Puts}
-use Rattle.proto_types.specs.Typed.{Means}
 use Rattle.proto_types.specs.declared.found.Found.{Found}
-use Rattle.proto_types.specs.declared.meaning.Meaning.{Meaning}
 use Rattle.proto_types.specs.declared.meaning.Meaning.TheVariants.{Named, Wrong}
 use Rattle.proto_types.specs.declared.meaning.NamedType.{NamedType}
 

@@ -1,22 +1,10 @@
 -- What the steps of an answer give, as the response to a body.
-use Rattle.std.proofs.Common.{◌≡◌, ℕ, zero, suc, ◌<◌, ◌≤◌, List, [], ◌∷◌, ◌++◌, length, map, get_or, ap, arith, refl, All, Bool, filter, inl, inr, not, ◌||◌, Option, Some, None, Contains, Vec, ◌==◌, Global}
+use Rattle.reflect_core.proofs.Common.{◌≡◌, ℕ, zero, suc, ◌<◌, ◌≤◌, List, [], ◌∷◌, ◌++◌, length, map, get_or, ap, arith, refl, All, Bool, filter, inl, inr, not, ◌||◌, Option, Some, None, Contains, Vec, ◌==◌, Global, AllZip, All-head, All-map, All-tail, AllZip-long, carried, carried_from, reached, repeats, root_first, Mode, Compilation, bytes_at, bytes_field, count_of, reach_of, IsAllowed, ReadsBody, Asked, files_bytes, services_bytes, IsAsked, root, HoldsReplies, AreReplyable, AreServicesFor, IsReplyable, IsRootWithin, asked_of, files_of}
 use Rattle.std.specs.Set.{is_member}
-use Rattle.std.specs.List.{AllZip}
 use Rattle.std.proofs.lemmas.List.{length-map}
-use Rattle.std.proofs.lemmas.List.Elements.{All-head, All-map, All-tail}
-use Rattle.std.proofs.lemmas.Slice.Zip.{AllZip-long}
 use Rattle.std.proofs.lemmas.Bool.{cases_lt}
-use Rattle.first_reach.specs.Carried.{carried, carried_from, reached, repeats, root_first}
-use Rattle.first_reach.specs.declared.mode.Mode.{Mode}
 use Rattle.proto_base.specs.Limits.{limit_of}
 use Rattle.proto_base.specs.declared.limits.Limit.TheVariants as limit
-use Rattle.proto_compile.specs.Compilation.{Compilation, bytes_at}
-use Rattle.wire_format.specs.Field.{bytes_field}
-use Rattle.proto_links.specs.Linked.{count_of, reach_of}
-use Rattle.reflect_requests.specs.Frames.{IsAllowed, ReadsBody}
-use Rattle.reflect_core.specs.Reply.{Asked, files_bytes, services_bytes}
-use Rattle.reflect_core.specs.Response.{IsAsked, root}
-use Rattle.reflect_core.specs.ResponseSteps.{HoldsReplies, AreReplyable, AreServicesFor, IsReplyable, IsRootWithin, asked_of, files_of}
 use Rattle.reflect_core.specs.declared.asked.Asked as rust
 use Rattle.reflect_core.proofs.Carrying.{carried_short, carried_inside}
 use Rattle.reflect_core.proofs.ReadBounds.{read_bounds}

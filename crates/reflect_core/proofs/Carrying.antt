@@ -1,9 +1,6 @@
 -- The files of a reply: files of the compilation, and no more bytes than the set.
-use Rattle.std.proofs.Common.{ℕ, zero, suc, ◌+◌, ◌≤◌, List, ◌∷◌, length, ap, arith, length-append, refl, Bool, not, eqb, eq-eqb, filter, Some, flat_map, Contains}
-use Rattle.std.proofs.lemmas.List.Concat.{length-flat_map}
+use Rattle.reflect_core.proofs.Common.{ℕ, zero, suc, ◌+◌, ◌≤◌, List, ◌∷◌, length, ap, arith, length-append, refl, Bool, not, eqb, eq-eqb, filter, Some, flat_map, Contains, length-flat_map, get_or-le-sum_by, root_first}
 use Rattle.std.proofs.lemmas.List.Filters.{sum_by-filter_both}
-use Rattle.std.proofs.lemmas.List.Sums.{get_or-le-sum_by}
-use Rattle.first_reach.specs.Carried.{root_first}
 use Rattle.proto_compile.proofs.Within.{some_of}
 use Rattle.proto_links.proofs.Whole.{kept_from, kept_to}
 

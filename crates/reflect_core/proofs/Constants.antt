@@ -1,7 +1,6 @@
 -- The errors of replies, byte by byte.
-use Rattle.std.proofs.Common.{◌≡◌, [], ◌∷◌, refl, codes}
+use Rattle.reflect_core.proofs.Common.{◌≡◌, [], ◌∷◌, refl, codes, error_bytes}
 use Rattle.wire_format.specs.Varint.{varint_bytes, groups}
-use Rattle.reflect_core.specs.Reply.{error_bytes}
 
 pub not_found_is : error_bytes 5 (codes "not found") ≡ 8 ∷ 5 ∷ 18 ∷ 9 ∷ 110 ∷ 111 ∷ 116 ∷ 32 ∷ 102 ∷ 111 ∷ 117
     ∷ 110 ∷ 100 ∷ []

@@ -1,11 +1,8 @@
 -- What an index finds, as what a compilation declares.
-use Rattle.std.proofs.Common.{◌≡◌, ◌∙◌, ℕ, List, Some, sym, Contains}
-use Rattle.std.proofs.lemmas.Option.{none-some}
-use Rattle.proto_compile.specs.Compilation.{Compilation}
+use Rattle.reflect_core.proofs.Common.{◌≡◌, ◌∙◌, ℕ, List, Some, sym, Contains, none-some, Compilation, Declares}
 use Rattle.proto_desc.specs.declared.name_kind.NameKind.{NameKind}
 use Rattle.proto_names.specs.Index.{Index}
 use Rattle.proto_names.specs.Occurrences.{Occurrence}
-use Rattle.reflect_core.specs.Answer.{Declares}
 
 pub declares_of : (c : Compilation) (index : Index) (name : List ℕ) (o : Occurrence) (kind : NameKind) → index ≡ c.index
     → Contains index.occurrences o → o.name ≡ name → o.kind ≡ Some kind → Declares c name o

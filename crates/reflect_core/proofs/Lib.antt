@@ -1,3 +1,4 @@
+mod Common
 mod Declaring
 mod Constants
 mod ReadBounds

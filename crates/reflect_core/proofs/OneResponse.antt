@@ -1,26 +1,15 @@
 -- Sources give a body one response.
-use Rattle.std.proofs.Common.{◌≡◌, ◌∙◌, ◌++◌, sym, ℕ, ◌<◌, List, [], ◌∷◌, map, ap, refl, arith, Option, Some, None, length, Contains, flat_map, zip}
-use Rattle.std.specs.List.{AllZip}
-use Rattle.std.proofs.lemmas.Option.{none-some, same_Some}
-use Rattle.first_reach.specs.Carried.{carried, carried_from, reached, root_first}
-use Rattle.first_reach.specs.declared.mode.Mode.{Mode}
+use Rattle.reflect_core.proofs.Common.{◌≡◌, ◌∙◌, ◌++◌, sym, ℕ, ◌<◌, List, [], ◌∷◌, map, ap, refl, arith, Option, Some, None, length, Contains, flat_map, zip, AllZip, none-some, same_Some, carried, carried_from, reached, root_first, Mode, Compilation, IsCompiled, IsNamed, reach_of, frame, Ask, Answer, Declares, IsAnswer, root_of, Asked, reply, IsAsked, IsResponse, replies, replies_to, root, trailer}
 use Rattle.proto_base.specs.declared.limits.Limits.{Limits}
 use Rattle.proto_compile.specs.Alike.{AreAlike}
-use Rattle.proto_compile.specs.Compilation.{Compilation, IsCompiled, IsNamed}
 use Rattle.proto_compile.specs.declared.source.Source.{Source}
 use Rattle.proto_compile.proofs.Alike.{alike, described_count}
 use Rattle.proto_compile.proofs.Rising.{named_once}
-use Rattle.proto_links.specs.Linked.{reach_of}
 use Rattle.proto_names.specs.Occurrences.{Occurrence}
 use Rattle.proto_names.proofs.Once.{declared_once}
-use Rattle.reflect_requests.specs.Frames.{frame}
-use Rattle.reflect_requests.specs.Request.{Ask}
 use Rattle.reflect_requests.proofs.FrameRows.{one_reading}
 use Rattle.reflect_requests.proofs.RequestRows.{one_ask, one_host}
 use Rattle.reflect_core.specs.Answer as answers
-use Rattle.reflect_core.specs.Answer.{Answer, Declares, IsAnswer, root_of}
-use Rattle.reflect_core.specs.Reply.{Asked, reply}
-use Rattle.reflect_core.specs.Response.{IsAsked, IsResponse, replies, replies_to, root, trailer}
 
 -- ---- one answer
 

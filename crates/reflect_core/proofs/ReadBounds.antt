@@ -1,9 +1,6 @@
 -- What a message names is no longer than the message.
-use Rattle.std.proofs.Common.{◌≡◌, ℕ, ◌≤◌, List, [], ◌∷◌, length, ap, arith, length-append, Option, Some, flat_map, filter_map}
-use Rattle.std.proofs.lemmas.Grind.{common_steps}
-use Rattle.std.specs.List.{cons_option}
+use Rattle.reflect_core.proofs.Common.{◌≡◌, ℕ, ◌≤◌, List, [], ◌∷◌, length, ap, arith, length-append, Option, Some, flat_map, filter_map, common_steps, cons_option, Ask, file_by_name, file_by_symbol, file_by_extension, extension_numbers, list_services, nothing, last_of, host_of, member_of, ReadsRequest}
 use Rattle.wire_format.specs.Reading.{Value, number, bytes, Spelled, Body, varint_body, delimited, body_text, text_of, entry_of, entry_by}
-use Rattle.reflect_requests.specs.Request.{Ask, file_by_name, file_by_symbol, file_by_extension, extension_numbers, list_services, nothing, last_of, host_of, member_of, ReadsRequest}
 
 abbrev pub value_len : ℕ × Value → ℕ
 value_len (n, number value) = 0

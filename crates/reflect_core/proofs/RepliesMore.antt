@@ -1,13 +1,6 @@
 -- The replies to some requests and to one more.
-use Rattle.std.proofs.Common.{◌≡◌, ℕ, zero, suc, ◌+◌, ◌<◌, List, [], ◌∷◌, ◌++◌, length, map, take, get_or, ap, arith, refl, add-one, append-nil, flat_map, Vec, Global}
-use Rattle.std.proofs.lemmas.Grind.{common_steps}
-use Rattle.std.proofs.lemmas.List.Concat.{flat_map-append}
-use Rattle.proto_compile.specs.Compilation.{Compilation}
-use Rattle.reflect_core.specs.Reply.{Asked, contents_of, reply}
-use Rattle.reflect_core.specs.Response.{replies_to}
-use Rattle.reflect_core.specs.ResponseSteps.{AreContentsLengths, AreReplyable, HasContents, asked_of, files_of, reply_size}
+use Rattle.reflect_core.proofs.Common.{◌≡◌, ℕ, zero, suc, ◌+◌, ◌<◌, List, [], ◌∷◌, ◌++◌, length, map, take, get_or, ap, arith, refl, add-one, append-nil, flat_map, Vec, Global, common_steps, flat_map-append, Compilation, Asked, contents_of, reply, replies_to, AreContentsLengths, AreReplyable, HasContents, asked_of, files_of, reply_size, frame}
 use Rattle.reflect_core.specs.declared.asked.Asked as rust
-use Rattle.reflect_requests.specs.Frames.{frame}
 
 -- how long a reply is, part by part
 pub reply_length : (c : Compilation) (asked : Asked) (files : List ℕ)

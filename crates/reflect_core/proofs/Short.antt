@@ -1,15 +1,7 @@
 -- Replies have room in a frame.
-use Rattle.std.proofs.Common.{ℕ, ◌+◌, ◌<◌, ◌≤◌, List, [], ◌∷◌, length, get_or, ap, arith, length-append}
-use Rattle.std.proofs.lemmas.List.Concat.{length-flat_map}
-use Rattle.std.proofs.lemmas.List.Elements.{Contains-get_or}
-use Rattle.std.proofs.lemmas.List.Sums.{sum_by-le}
-use Rattle.proto_compile.specs.Compilation.{Compilation}
+use Rattle.reflect_core.proofs.Common.{ℕ, ◌+◌, ◌<◌, ◌≤◌, List, [], ◌∷◌, length, get_or, ap, arith, length-append, length-flat_map, Contains-get_or, sum_by-le, Compilation, bytes_field, Ask, Answer, IsAnswer, file, no_extensions, services, not_found, empty_request, Asked, contents_of, files_bytes, services_bytes, host_field, reply}
 use Rattle.proto_compile.specs.Sound.{IsSound}
-use Rattle.wire_format.specs.Field.{bytes_field}
 use Rattle.wire_format.proofs.Varints.{varint_short}
-use Rattle.reflect_requests.specs.Request.{Ask}
-use Rattle.reflect_core.specs.Answer.{Answer, IsAnswer, file, no_extensions, services, not_found, empty_request}
-use Rattle.reflect_core.specs.Reply.{Asked, contents_of, files_bytes, services_bytes, host_field, reply}
 use Rattle.reflect_core.proofs.Constants.{not_found_is, empty_request_is}
 use Rattle.reflect_core.proofs.ReadBounds.{ask_size}
 use Rattle.reflect_core.proofs.RepliesMore.{reply_length}

@@ -1,18 +1,10 @@
 -- Every reply to the requests of a body has room in a frame.
-use Rattle.std.proofs.Common.{◌≡◌, ℕ, ◌<◌, List, [], ◌∷◌, length, sym, subst, arith, All}
-use Rattle.std.specs.List.{AllZip}
-use Rattle.std.proofs.lemmas.List.Elements.{All-cons, All-nil}
-use Rattle.first_reach.specs.declared.mode.Mode.{Mode}
+use Rattle.reflect_core.proofs.Common.{◌≡◌, ℕ, ◌<◌, List, [], ◌∷◌, length, sym, subst, arith, All, AllZip, All-cons, All-nil, Mode, Compilation, IsCompiled, count_of, Asked, reply, IsAsked, IsResponse, replies, replies_to, root, HoldsReplies, IsRootWithin}
 use Rattle.proto_base.specs.declared.limits.Limits.{Limits}
-use Rattle.proto_compile.specs.Compilation.{Compilation, IsCompiled}
 use Rattle.proto_compile.specs.declared.source.Source.{Source}
 use Rattle.proto_compile.proofs.Making.{sound}
 use Rattle.proto_compile.proofs.Within.{reached_within}
-use Rattle.proto_links.specs.Linked.{count_of}
 use Rattle.proto_links.proofs.Whole.{whole_of}
-use Rattle.reflect_core.specs.Reply.{Asked, reply}
-use Rattle.reflect_core.specs.Response.{IsAsked, IsResponse, replies, replies_to, root}
-use Rattle.reflect_core.specs.ResponseSteps.{HoldsReplies, IsRootWithin}
 use Rattle.reflect_core.proofs.AnsweringBody.{IsGood, all_good, allowed_of}
 use Rattle.reflect_core.proofs.OneResponse.{IsOne, is_one, root_inside}
 

@@ -1,33 +1,25 @@
 -- What work in shares gives for items, and what holds of each item and what is given for it.
-use Rattle.std.proofs.Common.{◌≡◌, ◌∙◌, sym, ap, refl, Some, ℕ, zero, suc, ◌+◌, ◌<◌, List, [], ◌∷◌, ◌++◌, length, take, get_or, map, arith, rules}
-use Rattle.std.proofs.Math.Nat.{add-zero, zero-add}
+use Rattle.share_work.proofs.Common.{◌≡◌, ap, refl, Some, ℕ, zero, suc, ◌+◌, ◌<◌, List, [], ◌∷◌, ◌++◌, length, take, get_or, map, arith, rules, add-zero, Result, Ok, slice_get, length-take-le, get_or_default, length-map, take_more, slice_get-map, slice_get_read, GivesItems}
 use Rattle.std.specs.List.{AllZip}
-use Rattle.std.specs.Prelude.{Result, Ok, slice_get}
-use Rattle.std.proofs.lemmas.List.{get_or_default, length-map, length-take-le, take_more}
-use Rattle.std.proofs.lemmas.Option.{slice_get-map, slice_get_read}
-use Rattle.share_work.specs.Shares.{GivesItems}
 
 -- what holds of no items, and with an item of those behind it also of all of them, holds of what is given
 pub gives_each : {X Y : Type 0} (R : ℕ → X → Y → Type 0) (P : ℕ → List X → List Y → Type 0) → ((a : ℕ) → P a [] [])
     → ((a : ℕ) (x : X) (y : Y) (xs : List X) (ys : List Y) → R a x y → P (a + 1) xs ys → P a (x ∷ xs) (y ∷ ys))
     → (a : ℕ) (xs : List X) (ys : List Y) → GivesItems R a xs ys → P a xs ys
 gives_each R P none more a [] [] gives = none a
-gives_each R P none more a [] (y ∷ ys) gives = absurd (omega (arith, gives.0))
-gives_each R P none more a (x ∷ xs) [] gives = absurd (omega (arith, gives.0))
 gives_each R P none more a (x ∷ xs) (y ∷ ys) gives =
     more a x y xs ys (rw add-zero at (gives.1 0 x y refl refl)) (gives_each R P none more (a + 1) xs ys (
       omega (arith, gives.0),
       λ i t o item out. let next : a + 1 + i ≡ a + suc i = omega arith in rw next (gives.1 (suc i) t o item out),
     ))
+gives_each R P none more a xs ys gives = absurd (omega (arith, gives.0))
 
 -- one more in front
 gives_first : {X Y : Type 0} (R : ℕ → X → Y → Type 0) (a : ℕ) (x : X) (y : Y) (xs : List X) (ys : List Y) → R a x y
     → GivesItems R (a + 1) xs ys → (i : ℕ) (t : X) (o : Y) → slice_get (x ∷ xs) i ≡ Some t
     → slice_get (y ∷ ys) i ≡ Some o → R (a + i) t o
-gives_first R a x y xs ys here rest zero t o item out =
-    let is : x ≡ t = cc in let gives : y ≡ o = cc in rw (← is, ← gives, add-zero) here
-gives_first R a x y xs ys here rest (suc i) t o item out =
-    let at : a + suc i ≡ a + 1 + i = omega arith in rw at (rest.1 i t o item out)
+gives_first R a x y xs ys here rest zero t o item out = grind arith
+gives_first R a x y xs ys here rest (suc i) t o item out = grind (arith, rest.1 i t o item out)
 
 -- more behind
 pub gives_append : {X Y : Type 0} (R : ℕ → X → Y → Type 0) (ys : List X) (b : List Y) (a : ℕ) (xs : List X) (o : List Y)
@@ -42,10 +34,9 @@ pub gives_next : {X Y : Type 0} (R : ℕ → X → Y → Type 0) (a : ℕ) (xs :
     → k < length xs → x ≡ get_or xs k x → GivesItems R a (take k xs) ys → R (a + k) x y
     → GivesItems R a (take (k + 1) xs) (ys ++ y ∷ [])
 gives_next R a xs k x ys y h is gives here =
-    let taken : length (take k xs) ≡ k = grind (arith, length-take-le) in
-    let more : take (k + 1) xs ≡ take k xs ++ x ∷ [] = grind (arith, take_more) in
     let last = gives_first R (a + k) x y [] [] here (refl, λ i t o item out. absurd (search rules)) in
-    rw more (gives_append R (x ∷ []) (y ∷ []) a (take k xs) ys gives (rw taken (refl, last)))
+    let more : take (k + 1) xs ≡ take k xs ++ x ∷ [] = grind (arith, take_more) in
+    let longer = gives_append R (x ∷ []) (y ∷ []) a (take k xs) ys gives in grind (arith, length-take-le)
 
 -- where positions do not matter
 pub all_of_gives : {X Y : Type 0} (R : X → Y → Type 0) (a : ℕ) (xs : List X) (ys : List Y) → GivesItems (λ k. R) a xs ys
@@ -56,9 +47,8 @@ all_of_gives R = gives_each (λ k. R) (λ k. AllZip R) (λ a. tt) (λ a x y xs y
 pub given_at : {X Y : Type 0} (R : ℕ → X → Y → Type 0) (xs : List X) (ys : List Y) (k : ℕ) (x : X) (d y : Y)
     → GivesItems R 0 xs ys → k < length xs → get_or xs k x ≡ x → get_or ys k d ≡ y → R k x y
 given_at R xs ys k x d y gives h at is =
-    let inside : k < length ys = omega (arith, h, gives.0) in
-    rw zero-add at (gives.1 k x y (slice_get_read xs (length xs) k x refl h (sym at))
-    (slice_get_read ys (length ys) k y refl inside (sym is ∙ get_or_default ys k d y inside)))
+    let item = slice_get_read xs (length xs) k x refl h in let out = slice_get_read ys (length ys) k y refl in
+    grind (arith, get_or_default ys k d y, gives.1 k x y)
 
 -- where each is given `Ok`
 pub gives_well : {X T E : Type 0} (R : ℕ → X → Result T E → Type 0) (xs : List X) (ts : List T) (os : List (Result T E))

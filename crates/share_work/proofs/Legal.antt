@@ -1,13 +1,5 @@
 -- The least number at a word, and calls that stay legal.
-use Rattle.std.proofs.Common.{◌≡◌, ◌≢◌, ℕ, suc, ◌<◌, ◌≤◌, ◌⊎◌, inl, inr, Bool, true, cond, ◌==◌, ◌&&◌, ltb, List, [], ◌∷◌, sym, refl, ◌∙◌, subst, arith, min}
-use Rattle.std.specs.Prelude.{AllPairs, Contains}
-use Rattle.std.specs.List.{sum_by, count_by}
-use Rattle.std.proofs.lemmas.Bool.{eq-eqb, ne_eqb, cases_Bool, cases_lt, cases_eq}
-use Rattle.std.proofs.lemmas.List.Sums.{sum_by-cons}
-use Rattle.share_work.specs.declared.views.Call.{Call}
-use Rattle.share_work.specs.Posts.{NONE, least_at}
-use Rattle.share_work.specs.Views.{call, posts_of}
-use Rattle.share_work.specs.Rule.{FallsAt, IsLegalAt, IsLegal}
+use Rattle.share_work.proofs.Common.{◌≡◌, ◌≢◌, ℕ, suc, ◌<◌, ◌≤◌, ◌⊎◌, ◌↔◌, inl, inr, Bool, true, cond, ◌==◌, ◌&&◌, ltb, List, [], ◌∷◌, sym, refl, ◌∙◌, subst, arith, min, AllPairs, Contains, sum_by, count_by, eq-eqb, ne_eqb, cases_Bool, cases_lt, cases_eq, sum_by-cons, Call, NONE, least_at, call, posts_of, FallsAt, IsLegalAt, IsLegal}
 use Rattle.share_work.proofs.Sums.{none_in, front, behind, front_or_behind, pairs_cons, pairs_first, in_map, of_map, count_by-no, count_by-yes, count_in, count_of, calls_in}
 
 -- least_at at a pair of that word, and of another
@@ -83,11 +75,8 @@ Apart w c d = FallsAt w c → FallsAt w d → c.found ≢ d.found
 abbrev falls_from : ℕ → ℕ → Call → Bool
 falls_from w x c = (c.word == w) && ((c.found == x) && ltb c.number c.found)
 
-from_is : (w x : ℕ) (c : Call) → falls_from w x c ≡ true → FallsAt w c × (c.found ≡ x)
-from_is w x c e = grind arith
-
-from_true : (w x : ℕ) (c : Call) → FallsAt w c → c.found ≡ x → falls_from w x c ≡ true
-from_true w x c f e = grind arith
+from_is : (w x : ℕ) (c : Call) → (falls_from w x c ≡ true) ↔ (FallsAt w c × (c.found ≡ x))
+from_is w x c = grind arith
 
 -- at most one call that fell found x, where all are apart
 once_of : (w x : ℕ) (cs : List Call) → AllPairs (Apart w) cs → count_by (falls_from w x) cs ≤ 1
@@ -97,8 +86,8 @@ once_of w x (c ∷ cs) apart =
     elim (cases_Bool (falls_from w x c)) [
       | inl t ↦
           let none : 0 < count_by (falls_from w x) cs → ⊥ = λ some_other.
-          let r = count_of (falls_from w x) cs some_other in let its = from_is w x r.0 r.2 in
-          let mine = from_is w x c t in pairs_first (Apart w) c cs apart r.0 r.1 mine.0 its.0 (mine.1 ∙ sym its.1) in
+          let r = count_of (falls_from w x) cs some_other in
+          grind (arith, t, r.2, pairs_first (Apart w) c cs apart r.0 r.1) in
           grind (arith, none, count_by-yes (falls_from w x) c cs t)
       | inr f ↦ omega (arith, count_by-no (falls_from w x) c cs f)
     ]
@@ -107,8 +96,8 @@ once_from : (w : ℕ) (cs : List Call) → ((x : ℕ) → count_by (falls_from w
 once_from w [] once = λ i j d a b. absurd (omega arith)
 once_from w (c ∷ cs) once = pairs_cons (Apart w) c cs
     (λ d k mine its e. let p : Call → Bool = falls_from w c.found in
-    let yes = count_by-yes p c cs (from_true w c.found c mine refl) in
-    let in_rest = count_in p cs d k (from_true w c.found d its (sym e)) in absurd (omega (arith, once c.found)))
+    let yes = count_by-yes p c cs ((from_is w c.found c).1 (mine, refl)) in
+    let in_rest = count_in p cs d k ((from_is w c.found d).1 (its, sym e)) in absurd (omega (arith, once c.found)))
     (once_from w cs (λ x. omega (arith, once x, sum_by-cons (λ d. cond (falls_from w x d) 1 0) c cs)))
 
 pub IsLegal-same : (xs ys : List Call) → SameCalls xs ys → IsLegal xs → IsLegal ys

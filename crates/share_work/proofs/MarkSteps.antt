@@ -1,26 +1,11 @@
 -- Each kind of step keeps the rule of the marks.
 use Rattle.share_work.proofs.Sums.{only_one, sum_by-map, none_in, front, behind, front_or_behind, in_map, of_map, in_flat, of_flat, pairs_both, flat_set, flat_split, flat_join, EachAt, each_set, each_split, sum_by-at}
-use Rattle.std.proofs.lemmas.Grind.{common_steps}
-use Rattle.std.proofs.Common.{◌≡◌, ℕ, ◌+◌, ◌-◌, ◌^◌, ◌<◌, ◌≤◌, ◌⊎◌, inl, inr, ⊎_elim, Bool, true, false, cond, ltb, List, [], ◌∷◌, ◌++◌, length, set, slice_index, sym, refl, ap, ◌∙◌, subst, arith, min, get_or-set_same}
-use Rattle.std.specs.Prelude.{Option, None, Some as just, Contains}
-use Rattle.std.specs.List.{sum_by}
-use Rattle.std.proofs.lemmas.Bool.{lt-ltb}
-use Rattle.std.proofs.lemmas.List.{set-get_or, map-set, map-append}
-use Rattle.std.proofs.lemmas.List.Elements.{Contains-append_left, Contains-append_right, Contains-append_cases}
-use Rattle.std.proofs.lemmas.List.Sums.{sum_by-cons, sum_by-append, sum_by_push}
-use mathlib.Core.Option.{some}
-use lib.ListN.{get_elem?}
+use Rattle.share_work.proofs.Common.{common_steps, ◌≡◌, ℕ, ◌+◌, ◌-◌, ◌^◌, ◌<◌, ◌≤◌, ◌⊎◌, inl, inr, ⊎_elim, Bool, cond, ltb, List, [], ◌∷◌, ◌++◌, length, set, slice_index, sym, refl, ap, ◌∙◌, subst, arith, min, get_or-set_same, Option, None, Contains, sum_by, lt-ltb, set-get_or, map-set, map-append, Contains-append_left, Contains-append_right, Contains-append_cases, sum_by-cons, sum_by-append, sum_by_push, some, get_elem?, at_map, set_again, Call, NONE, least_at, call, posts_of, known, with_call, all_calls, IsKept, MarkSeatValue, MarkTableValue, at_each, marked_posts, owed_by, owed_of, mark_left, mark_right, mark_both, spent, make_debt, next_debt, with_root, with_paid, mark_spent}
+use Rattle.std.specs.Prelude.{Some as just}
 use Rattle.atomic_table.specs.Table.{State, keeps, Allows}
-use Rattle.atomic_table.proofs.Lists.{at_map, set_again}
-use Rattle.share_work.specs.declared.views.Call.{Call}
 use Rattle.share_work.specs.declared.views.View.{View}
 use Rattle.share_work.specs.declared.mark_view.Debt.{Debt}
 use Rattle.share_work.specs.declared.mark_view.MarkView.{MarkView}
-use Rattle.share_work.specs.Posts.{NONE, least_at}
-use Rattle.share_work.specs.Views.{call, posts_of, known, with_call}
-use Rattle.share_work.specs.Rule.{all_calls, IsKept}
-use Rattle.share_work.specs.Marks.{MarkSeatValue, MarkTableValue, at_each, marked_posts, owed_by, owed_of, mark_left, mark_right, mark_both}
-use Rattle.share_work.specs.Steps.{spent, make_debt, next_debt, with_root, with_paid, mark_spent}
 use Rattle.share_work.specs.MarkRule.{all_views, all_marks, all_owed, IsMarked}
 use Rattle.share_work.proofs.Steps.{calls_split, calls_join, IsKept-post, IsKept-split, IsKept-join, held-le-known, back, IsClosed, closes}
 use Rattle.share_work.proofs.Legal.{SameCalls, posts_same, least_at-le-NONE, least_at-above, least_le}
@@ -59,8 +44,7 @@ Empty v = v.least.parts ≡ 0 → (v.marks ≡ []) × (v.debt ≡ None)
 -- what a root's post leaves owed
 owed_new : (list : ℕ → List ℕ) (r n : ℕ) (b : Bool) (g x : ℕ)
     → Contains (owed_by list (cond b (just (make_debt r n 0)) None)) (g, x) → (n ≡ x) × Contains (list r) g
-owed_new list r n true g x h = each_to n (list r) g x h
-owed_new list r n false g x h = absurd (none_in (g, x) h)
+owed_new list r n b g x h = grind (arith, each_to n (list r) g x, none_in)
 
 -- a word after a post
 module _ (words : List ℕ) (g n : ℕ) (inside : g + 1 < length words) where

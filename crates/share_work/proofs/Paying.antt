@@ -1,15 +1,6 @@
 -- How far a mark has come with what it owes.
-use Rattle.std.proofs.lemmas.Grind.{common_steps}
-use Rattle.std.proofs.Common.{◌≡◌, ℕ, zero, suc, ◌+◌, ◌<◌, ◌≤◌, Bool, cond, List, [], ◌∷◌, ◌++◌, take, drop, length, slice_get, Some, None, ◌==◌, arith, append_assoc, add-one}
-use Rattle.std.specs.Prelude.{Contains}
-use Rattle.std.proofs.lemmas.Bool.{eq-eqb}
-use Rattle.std.proofs.lemmas.Option.{slice_get_cases}
-use Rattle.std.proofs.lemmas.List.{map-append, drop_all, take_all}
-use Rattle.share_work.specs.declared.views.Call.{Call}
+use Rattle.share_work.proofs.Common.{common_steps, ◌≡◌, ℕ, zero, suc, ◌+◌, ◌<◌, ◌≤◌, Bool, cond, List, [], ◌∷◌, ◌++◌, take, drop, length, slice_get, Some, None, ◌==◌, arith, append_assoc, add-one, Contains, eq-eqb, take_all, slice_get_cases, map-append, drop_all, Call, call, posts_of, at_each, owed_by, owed_of, make_debt, debt_at, next_debt, with_calls}
 use Rattle.share_work.specs.declared.mark_view.MarkView.{MarkView}
-use Rattle.share_work.specs.Views.{call, posts_of}
-use Rattle.share_work.specs.Marks.{at_each, owed_by, owed_of}
-use Rattle.share_work.specs.Steps.{make_debt, debt_at, next_debt, with_calls}
 use Rattle.share_work.proofs.Sums.{behind}
 
 -- the first k files have their posts, and the rest is owed

@@ -1,31 +1,7 @@
 -- Facts on the row of one worker, and on the rows of some workers.
-use Rattle.std.proofs.lemmas.Grind.{common_steps}
-use Rattle.std.proofs.Common.{◌≡◌, ℕ, zero, suc, ◌+◌, ◌-◌, ◌*◌, ◌/◌, ◌%◌, ◌<◌, ◌≤◌, ◌⊎◌, min, List, [], ◌∷◌, ◌++◌, length, take, drop, slice_get, Some, None, Result, IfOk, IsOkAnd, OnOk, length-append, get_or, refl, ap, subst, arith, inl, inr, rules, set}
-use Rattle.std.specs.List.{slice_range}
-use Rattle.std.proofs.lemmas.List.{length-take-le}
-use Rattle.std.proofs.lemmas.Option.{slice_get_within}
-use Rattle.std.proofs.Math.Seq.{take-add, take-nil}
-use Rattle.std.proofs.Math.ListN.{drop_of_length-le, set}
-use Rattle.std.proofs.lemmas.Bool.{cases_lt}
-use Rattle.std.proofs.Math.Nat.{mul-le-mul_right, zero-mul}
-use Rattle.share_work.specs.Shares.{AddsSome, AddsInRow, SeatGains, SeatHas, SeatsGain, SeatsHave, GivesItems, TakesAll}
+use Rattle.share_work.proofs.Common.{common_steps, ◌≡◌, ℕ, zero, suc, ◌+◌, ◌-◌, ◌*◌, ◌/◌, ◌%◌, ◌<◌, ◌≤◌, ◌⊎◌, min, List, [], ◌∷◌, ◌++◌, length, take, drop, slice_get, Some, Result, IfOk, IsOkAnd, OnOk, length-append, get_or, refl, arith, inl, inr, rules, set, slice_range, length-take-le, take-add, drop_of_length-le, mul-le-mul_right, zero-mul, slice_get_within, cases_lt, AddsSome, AddsInRow, SeatGains, SeatHas, SeatsGain, SeatsHave, GivesItems, TakesAll, GivesUpTo, GivesPiece, GivesRow, GivesRows}
+use Rattle.std.proofs.Math.Seq.{take-nil}
 use Rattle.share_work.proofs.Giving.{gives_append}
-use Rattle.share_work.specs.WorkerRows.{GivesUpTo, GivesPiece, GivesRow, GivesRows}
-
-module _ {V : Type 0} where
-  -- a fact on each element holds after a push of one that meets it
-  pub each_push : (P : ℕ → V → Type 0) (xs : List V) (y : V)
-      → ((k : ℕ) (v : V) → slice_get xs k ≡ Some v → P k v) → P (length xs) y
-      → (k : ℕ) (v : V) → slice_get (xs ++ y ∷ []) k ≡ Some v → P k v
-  each_push P [] y all last zero v e = let same : y ≡ v = cc in subst (P 0) same last
-  each_push P [] y all last (suc k) v e = let bad : None ≡ Some v = e in absurd (search rules)
-  each_push P (x ∷ xs) y all last zero v e = all zero v e
-  each_push P (x ∷ xs) y all last (suc k) v e = each_push (λ n. P (suc n)) xs y (λ n w. all (suc n) w) last k v e
-
--- the items from a on, c of them as far as there are
-pub range_piece : {X : Type 0} (xs : List X) (a c : ℕ)
-    → slice_range xs a (a + min c (length xs - a)) ≡ take c (drop a xs)
-range_piece xs a c = grind (arith, common_steps)
 
 -- what is found in two lists together is found in one of them
 pub found_in : {V : Type 0} (xs ys : List V) (k : ℕ) (v : V) → slice_get (xs ++ ys) k ≡ Some v
@@ -34,15 +10,17 @@ found_in [] ys k v e = inr (k, omega arith, e)
 found_in (x ∷ xs) ys zero v e = inl e
 found_in (x ∷ xs) ys (suc k) v e = grind (arith, found_in xs ys k v)
 
-module _ {T O V : Type 0} (gives : ℕ → T → O → Type 0) (outs_of : V → List O) (workers cut : ℕ) (items : List T) where
-  -- a row without its first piece
-  pub row_tail : (w : ℕ) (y : V) (ys : List V) → GivesRow gives outs_of workers cut items w (y ∷ ys)
-      → GivesRow gives outs_of workers cut items (w + workers) ys
-  row_tail w y ys r = record {
-    pieces = λ k v e. let same : w + workers + k * workers ≡ w + suc k * workers = grind arith in
-        rw same (r.pieces (suc k) v e);
-    whole = λ k inside. grind (arith, r.whole (suc k));
-  }
+module _ {V : Type 0} where
+  -- a fact on each element holds after a push of one that meets it
+  pub each_push : (P : ℕ → V → Type 0) (xs : List V) (y : V)
+      → ((k : ℕ) (v : V) → slice_get xs k ≡ Some v → P k v) → P (length xs) y
+      → (k : ℕ) (v : V) → slice_get (xs ++ y ∷ []) k ≡ Some v → P k v
+  each_push P xs y all last k v e = grind (arith, common_steps, found_in xs (y ∷ []) k v e, all k v)
+
+-- the items from a on, c of them as far as there are
+pub range_piece : {X : Type 0} (xs : List X) (a c : ℕ)
+    → slice_range xs a (a + min c (length xs - a)) ≡ take c (drop a xs)
+range_piece xs a c = grind (arith, common_steps)
 
 module _ {T O : Type 0} (gives : ℕ → T → O → Type 0) where
   -- the outs before a piece, and those of the piece
@@ -83,9 +61,11 @@ module _ {T O V R : Type 0} (gives : ℕ → T → O → Type 0) (outs_of : V �
     len = let n = h.len in omega (arith, length-append rest (r' ∷ []));
     each = each_push (λ j q. GivesRow gives outs_of workers cut items (p + 1 + j) (parts_of q)) rest r'
         (λ j q here. let same : p + 1 + j ≡ p + suc j = omega arith in rw same (h.each (suc j) q here))
-        (let n = h.len in let none : p + 0 ≡ p = omega arith in
-        let end : p + 1 + length rest ≡ p + workers = omega arith in
-        rw end (row_tail gives outs_of workers cut items p y (parts_of r') (rw (none, is) at (h.each 0 r refl))));
+        (let n = h.len in let row = rw is at (h.each 0 r refl) in record {
+          pieces = λ k v e. let same : p + 1 + length rest + k * workers ≡ p + 0 + suc k * workers = grind arith in
+              rw same (row.pieces (suc k) v e);
+          whole = λ k inside. grind (arith, row.whole (suc k));
+        });
   }
 
   pub one_row : (w : ℕ) (r : R) → GivesRow gives outs_of workers cut items w (parts_of r)
@@ -135,10 +115,8 @@ module _ {T O V S : Type 0} (gives : ℕ → T → O → Type 0) (outs_of : V �
         (rw (← r.at, ← C_is, ← is) out));
     kept = λ x n h. keeps x n (r.kept x n h);
     within = λ x n h. grind (arith, r.within x n, inner x n h);
-    gained = λ x n k below h. elim (cases_lt k (length row)) [
-      | inl lt ↦ keeps x n (r.gained x n k lt h)
-      | inr le ↦ let e : k ≡ length row = grind (arith, length-append) in outer x n (rw (is, C_is, r.at, ← e) h)
-    ];
+    gained = λ x n k below h.
+        grind (arith, cases_lt k (length row), keeps x n, length-append, outer x n, r.at, r.gained x n k);
   }
 
   -- past the end of the items the row is whole
@@ -200,9 +178,8 @@ module _ {S T : Type 0} (holds : S → ℕ → ℕ → Type 0) (adds : ℕ → T
 
 -- a list of one member
 pub one_member : {X : Type 0} (xs : List X) → length xs ≡ 1 → (x : X) × (xs ≡ x ∷ [])
-one_member [] e = absurd (omega arith)
 one_member (x ∷ []) e = (x, refl)
-one_member (x ∷ y ∷ xs) e = absurd (omega arith)
+one_member xs e = absurd (omega arith)
 
 pub IfOk-both : {A B C E : Type 0} (r : Result C E) (a : Result A E) (b : Result B E) (R : A → B → C → Type 0)
     (P : A → Type 0) (Q : B → Type 0) (Z : C
@@ -214,15 +191,12 @@ pub OnOk-both : {X E : Type 0} (r : Result X E) (P Q Z : Type 0) → OnOk r P �
 OnOk-both r P Q Z p q f = grind arith
 
 pub get_drop : {X : Type 0} (p : ℕ) (xs : List X) (o : ℕ) → slice_get (drop p xs) o ≡ slice_get xs (p + o)
-get_drop zero xs o = ap (λ k. slice_get xs k) (let e : o ≡ 0 + o = omega arith in e)
-get_drop (suc p) [] o = refl
 get_drop (suc p) (x ∷ xs) o = grind (arith, slice_get, get_drop p xs o)
+get_drop p xs o = grind arith
 
 pub get_take : {X : Type 0} (n : ℕ) (xs : List X) (o : ℕ) → o < n → slice_get (take n xs) o ≡ slice_get xs o
-get_take zero xs o h = absurd (omega arith)
-get_take (suc n) [] o h = refl
-get_take (suc n) (x ∷ xs) zero h = refl
 get_take (suc n) (x ∷ xs) (suc o) h = get_take n xs o (omega arith)
+get_take n xs o h = grind arith
 
 pub take_get : {X : Type 0} (n : ℕ) (xs : List X) (o : ℕ) (t : X) → slice_get (take n xs) o ≡ Some t
     → slice_get xs o ≡ Some t
@@ -233,5 +207,4 @@ pub takes_part : {T : Type 0} (takes : ℕ → T → Type 0) (items part : List 
     → part ≡ take c (drop first items) → TakesAll takes 0 items
     → TakesAll takes first part
 takes_part takes items part first c is all i t e =
-    let at = take_get c (drop first items) i t (rw is at e) in
-    let same : first + i ≡ 0 + (first + i) = omega arith in rw same (all (first + i) t (rw get_drop at at))
+    grind (arith, all (first + i) t, get_drop, take_get c (drop first items) i t)

@@ -1,14 +1,7 @@
 -- The calls at a word have an order in which each found the least number posted before it.
-use Rattle.std.proofs.Common.{◌≡◌, ℕ, zero, suc, ◌<◌, ◌≤◌, ◌⊎◌, inl, inr, ⊎_elim, Bool, true, ◌==◌, List, [], ◌∷◌, length, get_or, take, filter, arith, min}
-use Rattle.std.specs.Prelude.{AllPairs, Contains}
-use Rattle.std.specs.List.Sorted.{IsPermutation}
-use Rattle.std.proofs.lemmas.Bool.{eqb-true, eq-eqb}
+use Rattle.share_work.proofs.Common.{◌≡◌, ℕ, zero, suc, ◌<◌, ◌≤◌, ◌⊎◌, inl, inr, ⊎_elim, Bool, ◌==◌, List, [], ◌∷◌, length, get_or, take, filter, arith, min, AllPairs, Contains, IsPermutation, eqb-true, eq-eqb, Call, NONE, least_at, posts_of, IsLegalAt}
 use Rattle.std.proofs.lemmas.List.Kept.{AllPairs-filter}
 use Rattle.std.proofs.lemmas.List.Sorted.{Contains-permutation, IsPermutation-refl, IsPermutation-sym, IsPermutation-trans, IsPermutation-cons, IsPermutation-middle}
-use Rattle.share_work.specs.declared.views.Call.{Call}
-use Rattle.share_work.specs.Posts.{NONE, least_at}
-use Rattle.share_work.specs.Views.{posts_of}
-use Rattle.share_work.specs.Rule.{IsLegalAt}
 use Rattle.share_work.specs.Order.{MayFollow, IsOrderAt, EachFindsLeast, CallsReplay}
 use Rattle.share_work.proofs.Sums.{none_in, front, behind, front_or_behind, pairs_cons, pairs_first, of_filter, in_filter}
 use Rattle.share_work.proofs.Legal.{Apart, FellTo, least_here, least_at-le-NONE}
@@ -21,10 +14,6 @@ pairs_rest R x xs pairs i j d a b = pairs (suc i) (suc j) d (omega arith) (omega
 -- what each call found is m, or some call fell to it
 abbrev LinkedFrom : ℕ → ℕ → List Call → Type 0
 LinkedFrom w m ys = (c : Call) → Contains ys c → (c.found ≡ m) ⊎ FellTo w ys c.found
-
-abbrev Finds : ℕ → List Call → Type 0
-Finds m [] = Unit {0}
-Finds m (c ∷ cs) = (c.found ≡ m) × Finds (min m c.number) cs
 
 module _ (w m : ℕ) (c : Call) (cs : List Call) (pairs : AllPairs MayFollow (c ∷ cs))
     (linked : LinkedFrom w m (c ∷ cs)) where
@@ -43,36 +32,30 @@ module _ (w m : ℕ) (c : Call) (cs : List Call) (pairs : AllPairs MayFollow (c 
     front_or_behind,
   )
 
-finds_least : (w m : ℕ) (ys : List Call) → AllPairs MayFollow ys → LinkedFrom w m ys → Finds m ys
-finds_least w m [] pairs linked = tt
-finds_least w m (c ∷ cs) pairs linked = (
-  first_finds w m c cs pairs linked,
-  finds_least w (min m c.number) cs (pairs_rest MayFollow c cs pairs) (next_linked w m c cs pairs linked),
-)
-
-each_finds : (w m : ℕ) (ys : List Call) → m ≤ NONE → ((c : Call) → Contains ys c → c.word ≡ w) → Finds m ys
-    → (i : ℕ) (d : Call) → i < length ys
+each_finds : (w m : ℕ) (ys : List Call) → m ≤ NONE → ((c : Call) → Contains ys c → c.word ≡ w) → AllPairs MayFollow ys
+    → LinkedFrom w m ys → (i : ℕ) (d : Call) → i < length ys
     → (get_or ys i d).found ≡ min m (least_at w (posts_of (take i ys)))
-each_finds w m [] top at f i d h = absurd (omega arith)
-each_finds w m (c ∷ cs) top at f zero d h = omega (arith, f.0)
-each_finds w m (c ∷ cs) top at f (suc i) d h =
-    let ih = each_finds w (min m c.number) cs (omega arith) (λ e k. at e (behind c cs e k)) f.1 i d (omega arith) in
+each_finds w m [] top at pairs linked i d h = absurd (omega arith)
+each_finds w m (c ∷ cs) top at pairs linked zero d h = omega (arith, first_finds w m c cs pairs linked)
+each_finds w m (c ∷ cs) top at pairs linked (suc i) d h =
+    let ih = each_finds w (min m c.number) cs (omega arith) (λ e k. at e (behind c cs e k))
+    (pairs_rest MayFollow c cs pairs) (next_linked w m c cs pairs linked) i d (omega arith) in
     omega (arith, ih, least_here w (c.word, c.number) (posts_of (take i cs)) (at c (front c cs)))
 
 replays : (w : ℕ) (calls : List Call) → IsLegalAt w calls → (ys : List Call) → IsOrderAt w calls ys
     → EachFindsLeast w ys
 replays w calls l ys o =
     let at_w : Call → Bool = λ c. c.word == w in let zs : List Call = filter at_w calls in
-    let was : (c : Call) → Contains ys c → Contains calls c × (at_w c ≡ true) =
-    λ c h. of_filter at_w calls c (Contains-permutation ys zs c (IsPermutation-sym zs ys o.same) h) in
+    let was = λ (c : Call) (h : Contains ys c).
+    of_filter at_w calls c (Contains-permutation ys zs c (IsPermutation-sym zs ys o.same) h) in
     let at : (c : Call) → Contains ys c → c.word ≡ w = λ c h. eqb-true c.word w (was c h).1 in
     let linked : LinkedFrom w NONE ys = λ c h. elim (l.linked c (was c h).0 (at c h)) [
       | inl a ↦ inl a
       | inr b ↦ let kept = in_filter at_w calls b.0 b.1 (eq-eqb b.0.word w b.2.0) in
           inr (b.0, Contains-permutation zs ys b.0 o.same kept, b.2, b.3)
     ] in
-    λ i d h. let top = least_at-le-NONE w (posts_of (take i ys)) in
-    omega (arith, each_finds w NONE ys (omega arith) at (finds_least w NONE ys o.falling_last linked) i d h)
+    λ i d h. let found = each_finds w NONE ys (omega arith) at o.falling_last linked i d h in
+    omega (arith, found, least_at-le-NONE w (posts_of (take i ys)))
 
 -- ---- there is such an order
 

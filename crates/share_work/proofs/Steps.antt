@@ -1,22 +1,8 @@
 -- Each kind of step keeps the rule.
 use Rattle.share_work.proofs.Sums.{only_one, flat_set, flat_split, flat_join, EachAt, each_set, each_split, sum_by-at_set, sum_by-at, at_in, behind, front_or_behind, in_flat, of_map, pairs_in}
-use Rattle.std.proofs.lemmas.Grind.{common_steps}
-use Rattle.std.proofs.Common.{◌≡◌, ◌≢◌, ℕ, ◌+◌, ◌-◌, ◌^◌, ◌<◌, ◌≤◌, ◌⊎◌, inl, inr, ⊎_elim, List, [], ◌∷◌, ◌++◌, length, set, slice_index, sym, refl, ◌∙◌, subst, arith, min, length-set, get_or-set_other}
-use Rattle.std.specs.Prelude.{Contains}
-use Rattle.std.specs.List.{sum_by}
-use Rattle.std.proofs.lemmas.List.{set-get_or}
-use Rattle.std.proofs.lemmas.List.Elements.{Contains-append_cases}
-use Rattle.std.proofs.lemmas.List.Sums.{sum_by-cons, sum_by-append, sum_by_push}
-use mathlib.Core.Option.{some}
-use lib.ListN.{get_elem?}
+use Rattle.share_work.proofs.Common.{common_steps, ◌≡◌, ◌≢◌, ℕ, ◌+◌, ◌-◌, ◌^◌, ◌<◌, ◌≤◌, ◌⊎◌, inl, inr, ⊎_elim, List, [], ◌∷◌, ◌++◌, length, set, slice_index, sym, refl, ◌∙◌, subst, arith, min, length-set, get_or-set_other, Contains, sum_by, set-get_or, Contains-append_cases, sum_by-cons, sum_by-append, sum_by_push, some, get_elem?, set_again, Call, NONE, least_at, SeatValue, TableValue, call, posts_of, finds_of, pairs_of, known, with_call, with_told, left_of, right_of, both_of, spent, all_calls, all_told, IsLegal, IsPosted, IsKept}
 use Rattle.atomic_table.specs.Table.{State, keeps, Allows}
-use Rattle.atomic_table.proofs.Lists.{set_again}
-use Rattle.share_work.specs.declared.views.Call.{Call}
 use Rattle.share_work.specs.declared.views.View.{View}
-use Rattle.share_work.specs.Posts.{NONE, least_at}
-use Rattle.share_work.specs.Views.{SeatValue, TableValue, call, posts_of, finds_of, pairs_of, known, with_call, with_told, left_of, right_of, both_of}
-use Rattle.share_work.specs.Steps.{spent}
-use Rattle.share_work.specs.Rule.{all_calls, all_told, IsLegal, IsPosted, IsKept}
 use Rattle.share_work.proofs.Legal.{SameCalls, least_here, least_else, least_at-le-NONE, least_at-above, least_at-below, least_at-reached, least_at-same, post_in, posts_same, IsLegal-same, IsLegal-post}
 
 module _ (views : List View) (id : ℕ) (v : View) (at : get_elem? views id ≡ some v) where
@@ -87,8 +73,7 @@ module _ (count : ℕ) (words : List ℕ) (views : List View) (id : ℕ) (v : Vi
     seat_word = k.seat_word;
     least = λ w h. k.least w h ∙ least_at-same w (all_calls views) (all_calls views') same;
     legal = IsLegal-same (all_calls views) (all_calls views') same k.legal;
-    told = λ w x h. ⊎_elim (λ e. inl e) (λ p. inr (posts_same (all_calls views) (all_calls views') same (w, x) p))
-        (posted w x h);
+    told = λ w x h. grind (arith, posted w x h, posts_same (all_calls views) (all_calls views') same (w, x));
     parts = parts;
     spent = empty;
   }

@@ -1,16 +1,6 @@
 -- Members of lists, and sums over the lists of all views.
-use Rattle.std.proofs.Common.{append-nil, ◌++◌, ◌≡◌, ℕ, zero, suc, ◌+◌, ◌<◌, ◌≤◌, ◌⊎◌, inl, inr, Bool, true, false, cond, eqb, ◌&&◌, List, [], ◌∷◌, map, set, sym, refl, ap, subst, arith, filter}
-use Rattle.std.proofs.lemmas.Grind.{common_steps}
-use Rattle.std.specs.Prelude.{All, AllPairs, Contains}
-use Rattle.std.specs.List.{flat_map, sum_by, count_by}
-use Rattle.std.proofs.lemmas.Bool.{cases_Bool}
-use Rattle.std.proofs.lemmas.List.Elements.{Contains-get_or, Contains-append_left, Contains-append_right, Contains-append_cases, All-contains, All-contains_itself, All-filter, filter_passes}
-use Rattle.std.proofs.lemmas.List.Sums.{sum_by-cons, sum_by-append, sum_by_push}
+use Rattle.share_work.proofs.Common.{append-nil, ◌++◌, ◌≡◌, ℕ, zero, suc, ◌+◌, ◌<◌, ◌≤◌, ◌⊎◌, Bool, true, false, cond, eqb, ◌&&◌, List, [], ◌∷◌, map, set, sym, refl, subst, arith, filter, All, AllPairs, Contains, flat_map, sum_by, count_by, common_steps, cases_Bool, Contains-get_or, Contains-append_left, Contains-append_right, Contains-append_cases, All-contains, All-contains_itself, All-filter, filter_passes, sum_by-cons, sum_by-append, sum_by_push, some, some-injective, some-ne-none, get_elem?, at_set, at_snoc, Call}
 use Rattle.std.proofs.lemmas.List.Kept.{AllPairs-cons}
-use mathlib.Core.Option.{some, some-injective, some-ne-none}
-use lib.ListN.{get_elem?}
-use Rattle.atomic_table.proofs.Lists.{at_set, at_snoc}
-use Rattle.share_work.specs.declared.views.Call.{Call}
 
 pub none_in : {A : Type 0} (x : A) → Contains {X = A} [] x → ⊥
 none_in x (k, inside, is) = omega (arith, inside)
@@ -36,9 +26,8 @@ pub pairs_cons : {A : Type 0} (R : A → A → Type 0) (x : A) (xs : List A) →
 pairs_cons R x xs each pairs = AllPairs-cons R x xs (all_of (R x) xs each) pairs
 
 pub at_in : {A : Type 0} (xs : List A) (i : ℕ) (x : A) → get_elem? xs i ≡ some x → Contains xs x
-at_in [] i x e = absurd (some-ne-none x (sym e))
-at_in (y ∷ ys) zero x e = rw (some-injective y x e) (front x ys)
 at_in (y ∷ ys) (suc i) x e = behind y ys x (at_in ys i x e)
+at_in xs i x e = grind (arith, front, some-injective, some-ne-none)
 
 pub in_map : {A B : Type 0} (f : A → B) (xs : List A) (x : A) → Contains xs x → Contains (map f xs) (f x)
 in_map f xs x h = grind (arith, common_steps)
@@ -70,10 +59,8 @@ of_filter p xs x h = (
 pub in_filter : {A : Type 0} (p : A → Bool) (xs : List A) (x : A) → Contains xs x → p x ≡ true
     → Contains (filter p xs) x
 in_filter p [] x h t = absurd (none_in x h)
-in_filter p (y ∷ ys) x h t = elim (front_or_behind y ys x h) [
-  | inl e ↦ rw (e, t) (front x (filter p ys))
-  | inr k ↦ grind (arith, cases_Bool (p y), behind y (filter p ys) x, in_filter p ys x k t)
-]
+in_filter p (y ∷ ys) x h t =
+    grind (arith, cases_Bool (p y), front_or_behind y ys x h, front x, behind y (filter p ys) x, in_filter p ys x)
 
 -- ---- sums and counts
 
@@ -84,14 +71,12 @@ sum_by-flat_map h f (x ∷ xs) = grind (arith, common_steps, sum_by-append, sum_
 
 pub sum_by-at_set : {A : Type 0} (f : A → ℕ) (xs : List A) (i : ℕ) (v w : A) → get_elem? xs i ≡ some v
     → sum_by f (set xs i w) + f v ≡ sum_by f xs + f w
-sum_by-at_set f [] i v w e = absurd (some-ne-none v (sym e))
-sum_by-at_set f (x ∷ xs) zero v w e = omega (arith, sum_by-cons f w xs, sum_by-cons f x xs, ap f (some-injective x v e))
 sum_by-at_set f (x ∷ xs) (suc i) v w e = grind (arith, sum_by-cons, sum_by-at_set f xs i v w e)
+sum_by-at_set f xs i v w e = grind (arith, some-injective, some-ne-none, sum_by-cons)
 
 pub sum_by-at : {A : Type 0} (f : A → ℕ) (xs : List A) (i : ℕ) (v : A) → get_elem? xs i ≡ some v → f v ≤ sum_by f xs
-sum_by-at f [] i v e = absurd (some-ne-none v (sym e))
-sum_by-at f (x ∷ xs) zero v e = omega (arith, sum_by-cons f x xs, ap f (some-injective x v e))
 sum_by-at f (x ∷ xs) (suc i) v e = omega (arith, sum_by-cons f x xs, sum_by-at f xs i v e)
+sum_by-at f xs i v e = grind (arith, some-injective, some-ne-none, sum_by-cons)
 
 pub sum_by-map : {A B : Type 0} (f : B → ℕ) (g : A → B) (xs : List A) → sum_by f (map g xs) ≡ sum_by (λ x. f (g x)) xs
 sum_by-map f g [] = refl

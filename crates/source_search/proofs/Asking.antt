@@ -1,43 +1,38 @@
--- Names that are asked for, one after the other.
-use Rattle.std.proofs.Common.{arith, ◌≡◌, ◌∙◌, sym, ap, refl, subst, ℕ, List, [], ◌∷◌, ◌++◌, map, Bool, true, false, ◌⊎◌, inl, inr, Option, Some, None, Vec, Global, String, string_bytes, if◌then◌else◌, Contains, option_map, nat_cmp, append-nil, append_assoc}
+-- Names that are asked for, one after the other; rounds of a search, and its end.
+use Rattle.source_search.proofs.Common.{subst, ℕ, All, List, ◌++◌, take, drop, take-append-drop, arith, ◌≡◌, ◌∙◌, sym, ap, refl, [], ◌∷◌, map, Bool, true, false, ◌⊎◌, inl, inr, Option, Some, None, Vec, Global, String, string_bytes, if◌then◌else◌, Contains, option_map, append-nil, append_assoc, length, ◌↔◌, IfSome, flat_map, take_all, All-append, All-contains, Contains-append_left, Contains-append_right, All-map, All-push, All-weaker, Contains-push, All-cons, All-drop, All-head, All-nil, All-tail, all_of, of_map, in_map, BTreeSet, contains_text, nat_list_eq_equiv, map-append, drop-map, length-map, take-append-le, Limits, AsksFor, IsSearched, IsWorth, found_under, is_asked, sources_of, IsClosed, IsSearch, SourceImports, texts_in, IsWanted, Named, is_imported, name_in, AreWanted, is_given, named_bytes, Contains-permutation, IsPermutation-map, IsPermutation-sym, name_of, NamedText}
 use Rattle.std.specs.BTreeSet as sorted
-use Rattle.std.specs.BTreeSet.{BTreeSet, contains_text}
-use Rattle.std.specs.Cmp.Lexicographic.{slice_cmp}
-use Rattle.std.specs.List.{IsDistinct}
+use Rattle.std.specs.List.{IsDistinct, AllZip}
 use Rattle.std.specs.Str.{bytes_eq}
 use Rattle.std.specs.String.{string_cmp}
 use Rattle.std.proofs.lemmas.Bool.{cases_Bool, false_from_ne_true}
-use Rattle.std.proofs.lemmas.Cmp.{nat_list_eq_equiv}
-use Rattle.std.proofs.lemmas.List.{map-append}
-use Rattle.std.proofs.lemmas.List.Elements.{All-append, All-contains, All-map, All-push, All-weaker, Contains-append_left, Contains-push}
 use Rattle.std.proofs.lemmas.Map.Keys.{IsDistinct-push}
 use Rattle.std.proofs.lemmas.Map.Text.{btree_set_updates_text}
 use Rattle.std.proofs.lemmas.Option.{none-some, same_Some}
-use Rattle.proto_base.specs.declared.limits.Limits.{Limits}
-use Rattle.source_search.specs.Searching.{AsksFor, IsSearched, IsWorth, found_under, is_asked, sources_of}
 use Rattle.source_search.specs.Shelves.{IsFoundOn, Known, Lookup, bytes_in}
-use Rattle.source_search.specs.Wanted.{IsWanted, Named, is_imported, name_in}
 use Rattle.source_search.specs.declared.search.Search.{Search}
-use Rattle.source_search.proofs.Lists.{all_left, all_right}
 use Rattle.source_search.proofs.Naming.{bytes_same, same_bytes}
-use Rattle.share_work.proofs.Sums.{of_map}
 use Rattle.std.proofs.lemmas.List.Folds.{list_any_none}
+use Rattle.std.specs.List.Sorted.{IsPermutation}
+use Rattle.source_search.specs.Imports.{Imports, IsBelow}
+
+pub all_left : {X : Type 0} (P : X → Type 0) (xs ys : List X) → All P (xs ++ ys) → All P xs
+all_left P xs ys all = all_of P xs (λ x there. All-contains P (xs ++ ys) x all (Contains-append_left xs ys x there))
+
+pub all_right : {X : Type 0} (P : X → Type 0) (xs ys : List X) → All P (xs ++ ys) → All P ys
+all_right P xs ys all = all_of P ys (λ x there. All-contains P (xs ++ ys) x all (Contains-append_right xs ys x there))
 
 -- one more name in the set
 pub put_name : (name : List ℕ) (key : String Global) (old new : BTreeSet (String Global)) → string_bytes key ≡ name
     → sorted.Updates string_cmp old new key true → (other : List ℕ)
     → contains_text new other ≡ (if bytes_eq name other then true else contains_text old other)
-put_name name key old new same updates = btree_set_updates_text name old new true
-    (subst (λ (bs : List ℕ). sorted.UpdatesBy string_cmp (λ k. slice_cmp nat_cmp bs (string_bytes k)) old new true) same
-    updates)
+put_name name key old new same updates = grind (arith, btree_set_updates_text)
 
 found_at : (known : Known) (lookup : Lookup) (name : List ℕ) (found : Option (Vec ℕ Global)) → known ≡ Some lookup
     → IsFoundOn known name found
     → option_map bytes_in found ≡ lookup name
-found_at known lookup name found is on = subst (λ (k : Known). IsFoundOn k name found) is on
+found_at known lookup name found is on = grind arith
 
 -- a name that is asked for besides those before
-
 module _ (name : List ℕ) (asked later : List ℕ → Bool)
     (is : (other : List ℕ) → later other ≡ (if bytes_eq name other then true else asked other)) where
   pub still_asked : (other : List ℕ) → asked other ≡ true → later other ≡ true
@@ -47,10 +42,7 @@ module _ (name : List ℕ) (asked later : List ℕ → Bool)
   now_asked = grind (arith, is name, bytes_same name name refl)
 
   asked_cases : (other : List ℕ) → later other ≡ true → (name ≡ other) ⊎ (asked other ≡ true)
-  asked_cases other h = elim (cases_Bool (bytes_eq name other)) [
-    | inl same ↦ inl (same_bytes name other same)
-    | inr apart ↦ inr (grind (arith, is other))
-  ]
+  asked_cases other h = grind (arith, cases_Bool, same_bytes)
 
   -- what was found under the name, if anything, joins the sources
   pub found_more : (limits : Limits) (known : Known) (given sources : List Named) (found : Option (Vec ℕ Global))
@@ -118,3 +110,102 @@ asks_more limits known front back old mid new is first second =
       searched = λ given worth s. second.searched given (all_right (IsWorth limits known given) front back worth)
           (first.searched given (all_left (IsWorth limits known given) front back worth) s);
     })
+
+abbrev pub Lists : Type 0
+Lists = List (Vec (String Global) Global)
+
+-- this holds of each name below a folder that a source imports
+abbrev Holds : Limits → (List ℕ → Type 0) → NamedText → Type 0
+Holds limits P source = (name : List ℕ) → Imports limits source.text.items name → IsBelow name → P name
+
+-- each of these holds of the sources together where it holds of what they import
+imports_each : (limits : Limits) (P : List ℕ → Type 0) (sources : List NamedText) (lists : Lists)
+    → AllZip (SourceImports limits) sources lists
+    → All (Holds limits P) sources ↔ All P (flat_map texts_in lists)
+imports_each limits P [] [] zip = (λ each. All-nil P, λ all. All-nil (Holds limits P))
+imports_each limits P [] (l ∷ lists) zip = absurd zip
+imports_each limits P (s ∷ sources) [] zip = absurd zip
+imports_each limits P (s ∷ sources) (l ∷ lists) zip =
+    let rest = imports_each limits P sources lists zip.1 in (
+      λ each. All-append P (texts_in l) (flat_map texts_in lists)
+          (all_of P (texts_in l) (λ name there. let both = (zip.0 name).0 there in
+          All-head (Holds limits P) s sources each name both.0 both.1))
+          (rest.0 (All-tail (Holds limits P) s sources each)),
+      λ all. All-cons (Holds limits P) s sources
+          (λ name imports below. All-contains P (texts_in l) name (all_left P (texts_in l) _ all)
+          ((zip.0 name).1 (imports, below)))
+          (rest.1 (all_right P (texts_in l) _ all)),
+    )
+
+-- a round: what the sources behind the first ones import was asked for
+module _ (limits : Limits) (known : Known) (old new : Search) (sources : List NamedText) (lists : Lists) (done : ℕ)
+    (some : sources ≡ drop done old.sources.items) (zip : AllZip (SourceImports limits) sources lists)
+    (asks : AsksFor limits known (flat_map texts_in lists) old new) where
+  pub round_searched : (given : List Named) → IsSearch limits known given old → IsSearch limits known given new
+  round_searched given s =
+      let worth = Holds limits (IsWorth limits known given) in
+      let all = all_of worth old.sources.items (λ source there name imports below lookup at.
+      let wanted = All-contains (λ (one : Named). IsWanted limits lookup given one.0 one.1) (sources_of old)
+      (named_bytes source) (s.wanted lookup at) (in_map named_bytes old.sources.items source there) in
+      (name_of source, source.text.items, wanted, imports, below)) in
+      asks.searched given ((imports_each limits (IsWorth limits known given) sources lists zip).0
+      (subst (All worth) (sym some) (All-drop worth done old.sources.items all))) s
+
+  pub round_closed : (count : ℕ) → count ≡ length old.sources.items
+      → All (IsClosed limits (is_asked old)) (take done (sources_of old))
+      → All (IsClosed limits (is_asked new)) (take count (sources_of new))
+  round_closed count all front =
+      let len : count ≡ length (sources_of old) = all ∙ sym (length-map old.sources.items named_bytes) in
+      let cut : take count (sources_of new) ≡ sources_of old =
+      ap (take count) asks.grown ∙ take-append-le count (sources_of old) asks.more (omega (arith, len))
+      ∙ take_all count (sources_of old) (omega (arith, len)) in
+      let closed = IsClosed limits (is_asked new) in
+      let behind : All closed (map named_bytes sources) = All-map closed named_bytes sources
+      ((imports_each limits (λ name. is_asked new name ≡ true) sources lists zip).1 asks.asked) in
+      subst (All closed) (sym cut)
+      (subst (All closed) (take-append-drop done (sources_of old)) (All-append closed _ _
+      (All-weaker (IsClosed limits (is_asked old)) closed
+      (λ source closed name imports below. asks.still name (closed name imports below)) _ front)
+      (subst (All closed) (ap (map named_bytes) some ∙ sym (drop-map named_bytes done old.sources.items)) behind)))
+
+-- ---- the end
+
+wanted_held : (limits : Limits) (known : Known) (lookup : Lookup) → known ≡ Some lookup
+    → (given sources : List Named) (asked : List ℕ → Bool)
+    → IsSearched limits known given sources asked → All (IsClosed limits asked) sources → (name text : List ℕ)
+    → IsWanted limits lookup given name text
+    → Contains sources (name, text)
+wanted_held limits known lookup at given sources asked s closed _ _ (is_given name text there) =
+    All-contains (Contains sources) given (name, text) s.given_in there
+wanted_held limits known lookup at given sources asked s closed _ _
+    (is_imported importer its_text name text wanted imports below free has) =
+    let origin = wanted_held limits known lookup at given sources asked s closed importer its_text wanted in
+    s.found lookup at name text (All-contains (IsClosed limits asked) sources
+    (importer, its_text) closed origin name imports below) free has
+
+module _ (limits : Limits) (known : Known) (given : List Named) (search : Search)
+    (s : IsSearch limits known given search) (sources : List NamedText)
+    (moved : IsPermutation search.sources.items sources) where
+  same : IsPermutation (sources_of search) (map named_bytes sources)
+  same = IsPermutation-map named_bytes search.sources.items sources moved
+
+  pub all_wanted : (lookup : Lookup) → known ≡ Some lookup
+      → All (IsClosed limits (is_asked search)) (sources_of search)
+      → AreWanted limits lookup given (map named_bytes sources)
+  all_wanted lookup at closed name text = (
+    λ there. All-contains (λ (source : Named). IsWanted limits lookup given source.0 source.1) (sources_of search)
+        (name, text) (s.wanted lookup at)
+        (Contains-permutation _ _ (name, text) (IsPermutation-sym _ _ same) there),
+    λ wanted. Contains-permutation _ _ (name, text) same
+        (wanted_held limits known lookup at given (sources_of search) (is_asked search) s closed name text wanted),
+  )
+
+  pub given_held : All (Contains (map named_bytes sources)) given
+  given_held = All-weaker (Contains (sources_of search)) (Contains (map named_bytes sources))
+      (λ source. Contains-permutation _ _ source same) given s.given_in
+
+-- where the shelf is known
+pub if_known : (known : Known) (P : Lookup → Type 0) → ((lookup : Lookup) → known ≡ Some lookup → P lookup)
+    → IfSome known P
+if_known None P each = tt
+if_known (Some lookup) P each = each lookup refl

@@ -1,8 +1,7 @@
 -- What a text imports.
-use Rattle.std.proofs.Common.{◌≡◌, sym, subst, ℕ, List, [], map, arith, flat_map, filter, Contains}
+use Rattle.source_search.proofs.Common.{◌≡◌, sym, subst, ℕ, List, [], map, arith, flat_map, filter, Contains, Limits, in_filter, of_filter}
 use Rattle.proto_base.specs.Limits.{limit_of}
 use Rattle.proto_base.specs.declared.limits.Limit.TheVariants as limit
-use Rattle.proto_base.specs.declared.limits.Limits.{Limits}
 use Rattle.proto_file.specs.Local.{IsFile}
 use Rattle.proto_lower.specs.Files.{import_of}
 use Rattle.proto_syntax.proofs.SameFiles.{same_file}
@@ -15,7 +14,6 @@ use Rattle.proto_tree.specs.declared.file.FileTree.{FileTree}
 use Rattle.proto_tree.specs.declared.file.Statement.{Statement}
 use Rattle.source_folder.specs.Paths.{is_below}
 use Rattle.source_search.specs.Imports.{AreImportsOf, imported, path_of}
-use Rattle.share_work.proofs.Sums.{in_filter, of_filter}
 
 -- the paths that statements import, as far as they can be paths below a folder
 abbrev pub below_of : List Statement → List (List ℕ)
@@ -35,7 +33,7 @@ module _ (limits : Limits) (text : List ℕ) (tokens : List Spelled)
       subst (λ ts. IsTreeOf (limit_of limits limit.Depth) ts (file_tree file)) (sym (only is.0 is.1)) is.2
 
   pub no_tree : ((x : Tree) → IsTreeOf (limit_of limits limit.Depth) tokens x → ⊥) → AreImportsOf limits text []
-  no_tree none = no_imports limits text (λ file is. none (file_tree file) (of_tokens file is))
+  no_tree none = grind (arith, no_imports, of_tokens)
 
   -- a file imports what its statements say
   pub file_imports : IsTokenList (limit_of limits limit.FileBytes) text tokens

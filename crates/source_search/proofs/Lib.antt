@@ -1,6 +1,4 @@
 mod Asking
+mod Common
 mod Importing
-mod Lists
 mod Naming
-mod Rounds
-mod Starting

@@ -1,8 +1,5 @@
-use Rattle.std.proofs.Common.{[], get_or, arith, Contains}
-use Rattle.std.proofs.lemmas.List.Elements.{Contains-get_or}
-use Rattle.digraph.proofs.Gathering.{joined_there, joined_more, joined_two}
-use Rattle.digraph.proofs.Visiting.{among_some, among_some_all, no_position}
-use Rattle.digraph.proofs.Rows.{no_items}
+use Rattle.digraph.proofs.Common.{[], get_or, arith, Contains, Contains-get_or}
+use Rattle.digraph.proofs.Rows.{joined_there, joined_more, joined_two, among_some, among_some_all, no_items}
 use Rattle.digraph.proofs.closures.gather.Goals as goal
 use Rattle.digraph.proofs.closures.gather.Goals.{then-not-marks-node+in_ok-visit, else-not-marks-node}
 
@@ -11,7 +8,7 @@ loop-node-init c = record {
   room = c.requires.room;
   inside = λ k h. c.requires.nodes _ (Contains-get_or _ k 0 h);
   are = c.requires.marked;
-  gathered = λ x. (λ w. absurd (no_items x (rw c.requires.empty at w)), λ w. absurd (no_position w.1.0 w.1.1));
+  gathered = λ x. (λ w. absurd (no_items x (rw c.requires.empty at w)), λ w. absurd (omega (arith, w.1.1)));
 }
 
 pub visit-requires-clause-room : goal.visit-requires-clause-room

@@ -1,6 +1,5 @@
-use Rattle.std.proofs.Common.{get_or, arith, refl}
+use Rattle.digraph.proofs.Common.{get_or, arith, refl, Contains-get_or}
 use Rattle.std.proofs.lemmas.Result.{on_ok_weaker}
-use Rattle.std.proofs.lemmas.List.Elements.{Contains-get_or}
 use Rattle.digraph.proofs.Closing.{one_long, union_of_one}
 use Rattle.digraph.proofs.closures.push_union.Goals as goal
 

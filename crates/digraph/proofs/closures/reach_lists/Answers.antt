@@ -1,9 +1,6 @@
-use Rattle.std.proofs.Common.{◌∷◌, [], length-append, ◌≡◌, ◌∙◌, ap, length, arith}
-use Rattle.digraph.specs.Edges.{graph_of}
-use Rattle.digraph.specs.Reaches.{IsReach}
+use Rattle.digraph.proofs.Common.{◌∷◌, [], length-append, ◌≡◌, ◌∙◌, ap, length, arith, graph_of, IsReach}
 use Rattle.digraph.proofs.Closing.{reach_closed, union_reach, each_push}
-use Rattle.digraph.proofs.Rows.{written}
-use Rattle.digraph.proofs.Ways.{leads_le}
+use Rattle.digraph.proofs.Rows.{written, leads_le}
 use Rattle.digraph.proofs.closures.reach_lists.Goals as goal
 
 pub push_union-requires-clause-nodes : goal.push_union-requires-clause-nodes
@@ -18,7 +15,7 @@ push_union-requires-clause-rises c b h = (c.loop-own.invariant.reaches b (omega 
 
 pub push_union-requires-clause-below : goal.push_union-requires-clause-below
 push_union-requires-clause-below c b x h w =
-    omega (arith, leads_le _ _ _ c.requires (((c.loop-own.invariant.reaches b (omega arith)).members x).0 w))
+    omega (arith, leads_le _ (λ k. k) c.requires _ _ (((c.loop-own.invariant.reaches b (omega arith)).members x).0 w))
 
 pub loop-own-preserved : goal.loop-own-preserved
 loop-own-preserved c =

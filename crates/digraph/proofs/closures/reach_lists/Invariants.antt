@@ -1,7 +1,4 @@
-use Rattle.std.proofs.Common.{◌≡◌, length}
-use Rattle.digraph.specs.Edges.{graph_of}
-use Rattle.digraph.specs.Reaches.{AreReaches}
-use Rattle.digraph.specs.Marks.{NoneMarked}
+use Rattle.digraph.proofs.Common.{◌≡◌, length, graph_of, AreReaches, NoneMarked}
 use Rattle.digraph.proofs.closures.reach_lists.Given as goal
 
 abbrev pub invariant-loop-own : goal.invariant-loop-own

@@ -1,9 +1,7 @@
-use Rattle.std.proofs.Common.{eqb, lit<}
+use Rattle.digraph.proofs.Common.{eqb, lit<, IsDistinct-IsPermutation, IsStrictlyIncreasing-from_distinct}
 use Rattle.std.specs.Cmp.{nat_eq_equiv}
 use Rattle.std.proofs.lemmas.List.Sorted.{IsNonDecreasingBy-from_sort}
-use Rattle.std.proofs.lemmas.Map.Keys.{IsDistinct-IsPermutation, IsStrictlyIncreasing-from_distinct}
-use Rattle.digraph.proofs.Gathering.{joined_both, joined_two}
-use Rattle.digraph.proofs.Visiting.{same_members, one_only}
+use Rattle.digraph.proofs.Rows.{joined_both, joined_two, same_members, one_only}
 use Rattle.digraph.proofs.Closing.{none_are}
 use Rattle.digraph.proofs.closures.union_of.Goals as goal
 

@@ -1,7 +1,5 @@
-use Rattle.std.proofs.Common.{[], sym, append-nil, arith}
-use Rattle.std.proofs.lemmas.List.Elements.{Contains-get_or}
-use Rattle.digraph.proofs.Gathering.{joined_none, joined_end}
-use Rattle.digraph.proofs.Visiting.{among_all, no_position, visited_push, visited_skip}
+use Rattle.digraph.proofs.Common.{[], sym, append-nil, arith, Contains-get_or}
+use Rattle.digraph.proofs.Rows.{joined_none, joined_end, among_all, visited_push, visited_skip}
 use Rattle.digraph.proofs.marks.visit.Goals as goal
 use Rattle.digraph.proofs.marks.visit.Goals.{then-not-marks-node+in_ok-push, else-not-marks-node}
 
@@ -10,7 +8,7 @@ loop-node-init c = record {
   room = λ k h. c.requires.room _ (Contains-get_or _ k 0 h);
   are = c.requires.marked;
   prefix = ([], sym (append-nil c.args.marked.now.items));
-  added = λ x. joined_none (λ w. no_position w.0 w.1);
+  added = λ x. joined_none (λ w. omega (arith, w.1));
 }
 
 pub loop-node-preserved : goal.loop-node-preserved

@@ -1,4 +1,4 @@
-use Rattle.digraph.proofs.Visiting.{Visited}
+use Rattle.digraph.proofs.Rows.{Visited}
 use Rattle.digraph.proofs.marks.visit.Given as goal
 
 abbrev pub invariant-loop-node : goal.invariant-loop-node

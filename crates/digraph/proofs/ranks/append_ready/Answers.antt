@@ -1,10 +1,6 @@
-use Rattle.std.proofs.Common.{inl, inr, ap, length, get_or, arith}
-use Rattle.digraph.specs.Edges.{successors, graph_of}
-use Rattle.std.proofs.lemmas.List.Elements.{Contains-get_or}
-use Rattle.digraph.proofs.Gathering.{joined_none, joined_end}
-use Rattle.digraph.proofs.Visiting.{among_all, no_position}
+use Rattle.digraph.proofs.Common.{inl, inr, ap, length, get_or, arith, successors, graph_of, Contains-get_or}
+use Rattle.digraph.proofs.Rows.{joined_none, joined_end, among_all, length_graph}
 use Rattle.digraph.proofs.Levels.{appending_more, stopped}
-use Rattle.digraph.proofs.Rows.{length_graph}
 use Rattle.digraph.proofs.ranks.append_ready.Goals as goal
 use Rattle.digraph.proofs.ranks.append_ready.Goals.{then-count-successors+in_ok-push, else-count-successors}
 
@@ -12,7 +8,7 @@ pub loop-node-init : goal.loop-node-init
 loop-node-init c = record {
   room = λ k h. omega (arith, c.requires.nodes _ (Contains-get_or _ k 0 h), length_graph c.args.graph.now);
   are = c.requires.passed;
-  added = λ a. joined_none (λ w. no_position w.0.0 w.0.1);
+  added = λ a. joined_none (λ w. omega (arith, w.0.1));
 }
 
 pub pass-count-requires-clause-room : goal.pass-count-requires-clause-room

@@ -1,4 +1,4 @@
-use Rattle.digraph.specs.Edges.{graph_of}
+use Rattle.digraph.proofs.Common.{graph_of}
 use Rattle.digraph.proofs.Levels.{Appending}
 use Rattle.digraph.proofs.ranks.append_ready.Given as goal
 

@@ -1,8 +1,5 @@
-use Rattle.std.proofs.lemmas.Grind.{common_steps}
-use Rattle.std.proofs.Common.{[], ◌≡◌, length, arith}
-use Rattle.digraph.specs.Edges.{graph_of, successors}
-use Rattle.digraph.proofs.Gathering.{below_push, below_skip}
-use Rattle.digraph.proofs.Visiting.{rises_push, push_iff}
+use Rattle.digraph.proofs.Common.{common_steps, [], ◌≡◌, length, arith, graph_of, successors}
+use Rattle.digraph.proofs.Rows.{below_push, below_skip, rises_push, push_iff}
 use Rattle.digraph.proofs.ranks.leaves.Goals as goal
 use Rattle.digraph.proofs.ranks.leaves.Goals.{then-is_empty+in_ok-push, else-is_empty}
 

@@ -1,12 +1,7 @@
-use Rattle.std.proofs.Common.{get_or, arith}
+use Rattle.digraph.proofs.Common.{get_or, arith, IsStrictlyIncreasing-dedup, Contains-get_or, Edge, graph_of}
 use Rattle.std.proofs.lemmas.List.Filters.{dedup_is}
 use Rattle.std.proofs.lemmas.List.Kept.{Contains-dedup_nat, Contains-from_dedup}
-use Rattle.std.proofs.lemmas.Map.Keys.{IsStrictlyIncreasing-dedup}
-use Rattle.std.proofs.lemmas.List.Elements.{Contains-get_or}
-use Rattle.digraph.specs.Edges.{Edge, graph_of}
-use Rattle.digraph.proofs.Gathering.{joined_where, joined_all_where, joined_two}
-use Rattle.digraph.proofs.Visiting.{among_some, among_some_all, same_members}
-use Rattle.digraph.proofs.Rows.{edge_below, length_graph}
+use Rattle.digraph.proofs.Rows.{joined_where, joined_all_where, joined_two, among_some, among_some_all, same_members, edge_below, length_graph}
 use Rattle.digraph.proofs.ranks.next_ready.Goals as goal
 
 pub row-requires : goal.row-requires

@@ -1,4 +1,4 @@
-use Rattle.std.proofs.lemmas.List.Elements.{Contains-get_or}
+use Rattle.digraph.proofs.Common.{Contains-get_or}
 use Rattle.digraph.proofs.ranks.pass.Goals as goal
 
 pub bounds-marks-successors : goal.bounds-marks-successors

@@ -1,5 +1,4 @@
-use Rattle.std.proofs.Common.{◌-◌, length}
-use Rattle.digraph.specs.Rounds.{IsPassed}
+use Rattle.digraph.proofs.Common.{◌-◌, length, IsPassed}
 use Rattle.digraph.proofs.ranks.pass.Given as goal
 
 abbrev pub invariant-loop-count : goal.invariant-loop-count

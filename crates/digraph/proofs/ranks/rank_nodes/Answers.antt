@@ -1,6 +1,5 @@
 use Rattle.std.proofs.Common.{inl, ◌≡◌, ◌∙◌, ap, ℕ, ◌<◌, length, length-append, arith, refl}
 use Rattle.digraph.proofs.Levels.{passed_none, empty_from, levels_next, levels_ranked, levels_order, levels_stuck, round_shorter}
-use Rattle.digraph.proofs.Visiting.{no_position}
 use Rattle.digraph.proofs.Rows.{no_items, written, length_graph}
 use Rattle.digraph.proofs.ranks.rank_nodes.Goals as goal
 
@@ -25,7 +24,7 @@ loop-alloc-init c =
       least = λ a m. absurd (none a m);
       below = λ a m. absurd (none a m);
       late = λ a w. inl refl;
-      ordered = λ k h. absurd (no_position _ h);
+      ordered = λ k h. absurd (omega arith);
     })
 
 pub settle-requires : goal.settle-requires

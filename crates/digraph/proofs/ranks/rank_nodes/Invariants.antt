@@ -1,5 +1,4 @@
-use Rattle.std.proofs.Common.{◌-◌, length}
-use Rattle.digraph.specs.Edges.{graph_of}
+use Rattle.digraph.proofs.Common.{◌-◌, length, graph_of}
 use Rattle.digraph.proofs.Levels.{Levels}
 use Rattle.digraph.proofs.ranks.rank_nodes.Given as goal
 

@@ -1,7 +1,5 @@
-use Rattle.std.proofs.Common.{arith, refl}
-use Rattle.std.proofs.lemmas.List.Elements.{Contains-get_or}
-use Rattle.digraph.proofs.Gathering.{joined_end}
-use Rattle.digraph.proofs.Visiting.{among_all}
+use Rattle.digraph.proofs.Common.{arith, refl, Contains-get_or}
+use Rattle.digraph.proofs.Rows.{joined_end, among_all}
 use Rattle.digraph.proofs.ranks.settle.Goals as goal
 
 pub loop-node-init : goal.loop-node-init

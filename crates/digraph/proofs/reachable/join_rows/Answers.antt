@@ -1,6 +1,4 @@
-use Rattle.std.proofs.Common.{arith, get_or}
-use Rattle.std.proofs.lemmas.List.Elements.{Contains-get_or}
-use Rattle.std.proofs.lemmas.List.{get_or_default}
+use Rattle.digraph.proofs.Common.{arith, get_or, Contains-get_or, get_or_default}
 use Rattle.digraph.proofs.Joining.{joining_more}
 use Rattle.digraph.proofs.reachable.join_rows.Goals as goal
 

@@ -1,4 +1,4 @@
-use Rattle.digraph.specs.Edges.{graph_of}
+use Rattle.digraph.proofs.Common.{graph_of}
 use Rattle.digraph.proofs.Joining.{Succeeding}
 use Rattle.digraph.proofs.reachable.join_successors.Given as goal
 

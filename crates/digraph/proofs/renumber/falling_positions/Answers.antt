@@ -1,6 +1,5 @@
 use Rattle.std.proofs.Common.{get_or}
-use Rattle.digraph.proofs.Gathering.{joined_two}
-use Rattle.digraph.proofs.Visiting.{same_members}
+use Rattle.digraph.proofs.Rows.{joined_two, same_members}
 use Rattle.digraph.proofs.Renumbering.{map_members}
 use Rattle.digraph.proofs.renumber.falling_positions.Goals as goal
 

@@ -1,5 +1,4 @@
-use Rattle.std.proofs.Common.{arith}
-use Rattle.std.proofs.lemmas.List.Elements.{Contains-get_or}
+use Rattle.digraph.proofs.Common.{arith, Contains-get_or}
 use Rattle.digraph.proofs.renumber.positions_in.Goals as goal
 
 pub offset_bounds-positions-node : goal.offset_bounds-positions-node

@@ -1,5 +1,5 @@
 use Rattle.std.proofs.Common.{sym, length, refl, arith}
-use Rattle.digraph.proofs.Visiting.{among_all}
+use Rattle.digraph.proofs.Rows.{among_all}
 use Rattle.digraph.proofs.Renumbering.{placed_more, inside_order}
 use Rattle.digraph.proofs.renumber.positions_of.Goals as goal
 

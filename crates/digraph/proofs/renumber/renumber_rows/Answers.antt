@@ -1,8 +1,5 @@
-use Rattle.std.proofs.Common.{length-append, sym, [], ◌∷◌, length, ◌∙◌, ap, arith}
-use Rattle.digraph.specs.Edges.{IsWithin, successors, graph_of}
-use Rattle.digraph.specs.Renumbered.{HasPosition, node_at}
-use Rattle.digraph.proofs.Gathering.{below_more}
-use Rattle.digraph.proofs.Rows.{edge_push, graph_push, length_graph}
+use Rattle.digraph.proofs.Common.{length-append, sym, [], ◌∷◌, length, ◌∙◌, ap, arith, IsWithin, successors, graph_of, HasPosition, node_at}
+use Rattle.digraph.proofs.Rows.{below_more, edge_push, graph_push, length_graph}
 use Rattle.digraph.proofs.renumber.renumber_rows.Goals as goal
 
 pub falling_positions-requires : goal.falling_positions-requires

@@ -1,5 +1,4 @@
-use Rattle.std.proofs.Common.{length-append, [], ◌∷◌, inl, inr, arith}
-use Rattle.digraph.specs.Edges.{graph_of}
+use Rattle.digraph.proofs.Common.{length-append, [], ◌∷◌, inl, inr, arith, graph_of}
 use Rattle.digraph.proofs.Rows.{edge_push, graph_push, no_items}
 use Rattle.digraph.proofs.search.empty_rows.Goals as goal
 

@@ -1,14 +1,11 @@
-use Rattle.std.proofs.Common.{◌∙◌, ◌≡◌, length, arith}
-use Rattle.digraph.proofs.Rows.{edge_below, written, length_graph}
-use Rattle.digraph.specs.Edges.{Edge, graph_of}
-use Rattle.digraph.proofs.Gathering.{below_more}
-use Rattle.digraph.proofs.Visiting.{no_position}
+use Rattle.digraph.proofs.Common.{◌∙◌, ◌≡◌, length, arith, Edge, graph_of}
+use Rattle.digraph.proofs.Rows.{edge_below, written, length_graph, below_more}
 use Rattle.digraph.proofs.search.predecessors.Goals as goal
 
 pub loop-node-init : goal.loop-node-init
 loop-node-init c = record {
   size = omega (arith, length_graph c.args.graph.now, c.in_ok-rows.ensures.size);
-  edges = λ b a. (λ edge. absurd (c.in_ok-rows.ensures.empty b a edge), λ w. absurd (no_position a w.0));
+  edges = λ b a. (λ edge. absurd (c.in_ok-rows.ensures.empty b a edge), λ w. absurd (omega (arith, w.0)));
 }
 
 pub turn-requires : goal.turn-requires

@@ -1,11 +1,5 @@
-use Rattle.std.proofs.Common.{eqb-true, length, inl, inr, lit<, refl, sym, ◌∙◌, ap, ◌<◌, arith}
-use Rattle.std.proofs.lemmas.List.{get_or_default}
-use Rattle.std.proofs.lemmas.List.Elements.{Contains-get_or}
-use Rattle.digraph.specs.Edges.{graph_of, successors}
-use Rattle.digraph.specs.Leads.{here}
-use Rattle.digraph.proofs.Visiting.{one_only, no_position}
-use Rattle.std.proofs.lemmas.Map.Steps.{length-le_from_distinct_below}
-use Rattle.std.proofs.lemmas.Map.Views.{Contains-from_any}
+use Rattle.digraph.proofs.Common.{length, inl, inr, lit<, refl, sym, ◌∙◌, ap, ◌<◌, arith, get_or_default, Contains-get_or, graph_of, successors, here}
+use Rattle.digraph.proofs.Rows.{few, one_only}
 use Rattle.digraph.proofs.Closing.{none_are, no_member, searching_next, closed}
 use Rattle.digraph.proofs.search.search.Goals as goal
 
@@ -21,7 +15,7 @@ loop-next-init c = record {
     | inl h ↦ absurd (no_member _ x c.requires.empty h)
     | inr h ↦ rw (sym (one_only c.args.start x h)) here
   ];
-  done = λ k b h w. absurd (no_position k h);
+  done = λ k b h w. absurd (omega arith);
 }
 
 pub row-requires : goal.row-requires
@@ -38,8 +32,8 @@ loop-next-smaller c =
     let inv = c.loop-next.invariant in
     omega (
       arith,
-      length-le_from_distinct_below c.loop-next.found.items (length c.args.graph.now) inv.are.once
-          (λ q e. omega (arith, ((inv.are.same q).1 (Contains-from_any eqb-true q _ e)).0)),
+      few c.loop-next.found.items (length c.args.graph.now) inv.are.once
+          (λ q w. omega (arith, ((inv.are.same q).1 w).0)),
     )
 
 pub loop-next-preserved : goal.loop-next-preserved

@@ -1,14 +1,11 @@
-use Rattle.std.proofs.Common.{arith}
-use Rattle.std.proofs.lemmas.List.Elements.{Contains-get_or}
-use Rattle.digraph.proofs.Gathering.{joined_none, joined_end}
-use Rattle.digraph.proofs.Visiting.{among_all, no_position}
-use Rattle.digraph.proofs.Rows.{turning_more}
+use Rattle.digraph.proofs.Common.{arith, Contains-get_or}
+use Rattle.digraph.proofs.Rows.{joined_none, joined_end, among_all, turning_more}
 use Rattle.digraph.proofs.search.turn.Goals as goal
 
 pub loop-successor-init : goal.loop-successor-init
 loop-successor-init c = record {
   room = λ k h. c.requires.room _ (Contains-get_or _ k 0 h);
-  edges = λ b a. joined_none (λ w. no_position w.1.0 w.1.1);
+  edges = λ b a. joined_none (λ w. omega (arith, w.1.1));
 }
 
 pub loop-successor-preserved : goal.loop-successor-preserved

@@ -1,4 +1,4 @@
-use Rattle.digraph.specs.Edges.{graph_of}
+use Rattle.digraph.proofs.Common.{graph_of}
 use Rattle.digraph.proofs.Rows.{Turning}
 use Rattle.digraph.proofs.search.turn.Given as goal
 

@@ -1,6 +1,4 @@
-use Rattle.std.proofs.Common.{[], ◌∷◌, refl, arith, take_all}
-use Rattle.proto_checks.specs.Elements.{bodies_of, BodyBreaks}
-use Rattle.proto_base.proofs.Among.{least_single, behind_more, behind_skip}
+use Rattle.proto_checks.proofs.Common.{[], ◌∷◌, refl, arith, take_all, bodies_of, BodyBreaks, least_single, behind_more, behind_skip}
 use Rattle.proto_checks.proofs.Items.{nested_bodies}
 use Rattle.proto_checks.proofs.body.+message_fault.Goals as goal
 use Rattle.proto_checks.proofs.body.+message_fault.Goals.{in-Message+in_ok-message_fault-in-Message, in-Field, in-Map, in-Oneof, in-Option, in-Enum, in-Reserved, in-Empty}

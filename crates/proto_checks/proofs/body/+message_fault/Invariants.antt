@@ -1,8 +1,4 @@
-use Rattle.std.proofs.Common.{take, ◌∷◌}
-use Rattle.std.specs.Prelude.{flat_map}
-use Rattle.proto_checks.specs.Elements.{bodies_of, BodyBreaks}
-use Rattle.proto_base.specs.Least.{IsLeast}
-use Rattle.proto_base.specs.Sets.{Each}
+use Rattle.proto_checks.proofs.Common.{take, ◌∷◌, flat_map, bodies_of, BodyBreaks, IsLeast, Each}
 use Rattle.proto_checks.proofs.body.+message_fault.Given as goal
 
 abbrev pub invariant-loop-item : goal.invariant-loop-item

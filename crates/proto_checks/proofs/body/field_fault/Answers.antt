@@ -1,6 +1,4 @@
-use Rattle.std.proofs.Common.{◌≡◌, ◌&&◌, arith}
-use Rattle.std.proofs.lemmas.Grind.{common_steps}
-use Rattle.proto_checks.specs.Options.{is_repeated, is_packed_type}
+use Rattle.proto_checks.proofs.Common.{◌≡◌, ◌&&◌, arith, common_steps, is_repeated, is_packed_type}
 use Rattle.proto_checks.proofs.body.field_fault.Goals as goal
 
 pub returns : goal.returns

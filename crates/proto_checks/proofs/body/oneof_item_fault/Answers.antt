@@ -1,8 +1,4 @@
-use Rattle.proto_options.specs.Statements.{oneof_field}
-use Rattle.proto_checks.specs.Elements.{EnumBreaks, OneofBreaks}
-use Rattle.proto_checks.specs.Options.{FieldOptionsBreak, optioned_in_oneof}
-use Rattle.proto_base.proofs.Among.{each_map, least_nil, least_single}
-use Rattle.proto_base.proofs.Sets.{least_union}
+use Rattle.proto_checks.proofs.Common.{oneof_field, EnumBreaks, OneofBreaks, FieldOptionsBreak, optioned_in_oneof, each_map, least_nil, least_single, least_union}
 use Rattle.proto_checks.proofs.Elements.{least_flat, least_left}
 use Rattle.proto_checks.proofs.body.oneof_item_fault.Goals as goal
 

@@ -1,5 +1,4 @@
-use Rattle.std.proofs.Common.{arith}
-use Rattle.proto_base.proofs.Sets.{item_at, each_all}
+use Rattle.proto_checks.proofs.Common.{arith, item_at, each_all}
 use Rattle.proto_checks.proofs.Elements.{hit_more, miss_more, no_number}
 use Rattle.proto_checks.proofs.bounds.first_outside.Goals as goal
 use Rattle.proto_checks.proofs.bounds.first_outside.Goals.{then-marked-least, else-marked-least+else-marked-greatest}

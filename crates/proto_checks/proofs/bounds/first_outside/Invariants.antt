@@ -1,4 +1,4 @@
-use Rattle.proto_checks.specs.Marks.{IsOutside}
+use Rattle.proto_checks.proofs.Common.{IsOutside}
 use Rattle.proto_checks.proofs.Elements.{LeastOf}
 use Rattle.proto_checks.proofs.bounds.first_outside.Given as goal
 

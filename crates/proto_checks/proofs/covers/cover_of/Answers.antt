@@ -1,5 +1,4 @@
-use Rattle.std.proofs.Common.{◌≡◌, ◌∙◌, length}
-use Rattle.std.proofs.lemmas.List.{take_at}
+use Rattle.proto_checks.proofs.Common.{◌≡◌, ◌∙◌, length, take_at}
 use Rattle.proto_checks.proofs.Intervals.{cover_is}
 use Rattle.proto_checks.proofs.covers.cover_of.Goals as goal
 

@@ -1,7 +1,4 @@
-use Rattle.std.proofs.Common.{arith, rules}
-use Rattle.std.proofs.lemmas.List.Sorted.{IsNonDecreasingBy-from_sort_by_key}
-use Rattle.proto_base.proofs.Sets.{item_at}
-use Rattle.proto_checks.specs.declared.covers.Interval.{Interval}
+use Rattle.proto_checks.proofs.Common.{arith, rules, IsNonDecreasingBy-from_sort_by_key, item_at, Interval}
 use Rattle.proto_checks.proofs.Elements.{no_range}
 use Rattle.proto_checks.proofs.Intervals.{intervals_push, intervals_skip, intervals_all}
 use Rattle.proto_checks.proofs.covers.intervals_of.Goals as goal

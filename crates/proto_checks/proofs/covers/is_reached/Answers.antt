@@ -1,7 +1,5 @@
-use Rattle.std.proofs.Common.{arith, rules, leb}
-use Rattle.std.proofs.lemmas.Bool.Decides.{nat_tests}
+use Rattle.proto_checks.proofs.Common.{arith, rules, leb, nat_tests, Interval}
 use Rattle.std.proofs.lemmas.Fn.{always_returns_same}
-use Rattle.proto_checks.specs.declared.covers.Interval.{Interval}
 use Rattle.proto_checks.proofs.Intervals.{reached_told, blank}
 use Rattle.proto_checks.proofs.covers.is_reached.Goals as goal
 

@@ -1,5 +1,4 @@
-use Rattle.std.proofs.Common.{◌≡◌, arith}
-use Rattle.std.proofs.lemmas.Grind.{common_steps}
+use Rattle.proto_checks.proofs.Common.{◌≡◌, arith, common_steps}
 use Rattle.proto_checks.proofs.Intervals.{raised, raised_is, raised_more, blank}
 use Rattle.proto_checks.proofs.covers.raise_ends.Goals as goal
 

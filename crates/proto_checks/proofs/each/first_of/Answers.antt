@@ -1,5 +1,4 @@
-use Rattle.std.proofs.Common.{sym, arith}
-use Rattle.proto_base.proofs.Sets.{each_more, each_all}
+use Rattle.proto_checks.proofs.Common.{sym, arith, each_more, each_all}
 use Rattle.proto_checks.proofs.each.first_of.Goals as goal
 
 pub loop-item-preserved : goal.loop-item-preserved

@@ -1,5 +1,4 @@
-use Rattle.proto_base.specs.Least.{IsLeast}
-use Rattle.proto_base.proofs.Sets.{EachTo}
+use Rattle.proto_checks.proofs.Common.{IsLeast, EachTo}
 use Rattle.proto_checks.proofs.each.first_of.Given as goal
 
 abbrev pub invariant-loop-item : goal.invariant-loop-item

@@ -1,5 +1,4 @@
-use Rattle.proto_options.specs.Statements.{enum_value}
-use Rattle.proto_base.proofs.Sets.{least_union}
+use Rattle.proto_checks.proofs.Common.{enum_value, least_union}
 use Rattle.proto_checks.proofs.Elements.{least_flat}
 use Rattle.proto_checks.proofs.enumeration.enum_fault.Goals as goal
 

@@ -1,8 +1,4 @@
-use Rattle.std.proofs.Common.{◌≡◌, map, arith}
-use Rattle.std.proofs.lemmas.Grind.{common_steps}
-use Rattle.std.proofs.lemmas.List.{map-append}
-use Rattle.proto_base.proofs.Among.{least_append, least_single}
-use Rattle.proto_tree.specs.Lists.{separated}
+use Rattle.proto_checks.proofs.Common.{◌≡◌, map, arith, common_steps, map-append, least_append, least_single, separated}
 use Rattle.proto_checks.proofs.field_options.bracketed_fault.Goals as goal
 
 pub loop-setting-preserved : goal.loop-setting-preserved

@@ -1,9 +1,4 @@
-use Rattle.std.proofs.Common.{◌≡◌, ◌++◌, map}
-use Rattle.proto_base.specs.Least.{IsLeast}
-use Rattle.proto_base.specs.Sets.{Each}
-use Rattle.proto_tree.specs.Items.{items_left}
-use Rattle.proto_tree.specs.Lists.{separated}
-use Rattle.proto_checks.specs.Parts.{IsWrongOnField}
+use Rattle.proto_checks.proofs.Common.{◌≡◌, ◌++◌, map, IsLeast, Each, items_left, separated, IsWrongOnField}
 use Rattle.proto_checks.proofs.field_options.bracketed_fault.Given as goal
 
 abbrev pub invariant-loop-setting : goal.invariant-loop-setting

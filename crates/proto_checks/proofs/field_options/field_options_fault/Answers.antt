@@ -1,6 +1,4 @@
-use Rattle.proto_tree.specs.Lists.{separated}
-use Rattle.proto_base.proofs.Among.{each_union}
-use Rattle.proto_base.proofs.Sets.{least_union}
+use Rattle.proto_checks.proofs.Common.{separated, each_union, least_union}
 use Rattle.proto_checks.proofs.field_options.field_options_fault.Goals as goal
 
 pub returns : goal.returns

@@ -1,5 +1,4 @@
-use Rattle.proto_desc.specs.DeclaredNames.{file_scope}
-use Rattle.proto_base.proofs.Among.{least_append}
+use Rattle.proto_checks.proofs.Common.{file_scope, least_append}
 use Rattle.proto_checks.proofs.file.declared_lengths_fault.Goals as goal
 
 pub returns : goal.returns

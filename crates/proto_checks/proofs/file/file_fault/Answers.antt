@@ -1,4 +1,4 @@
-use Rattle.proto_base.proofs.Sets.{least_union}
+use Rattle.proto_checks.proofs.Common.{least_union}
 use Rattle.proto_checks.specs.Checks.{FileBreaks}
 use Rattle.proto_checks.proofs.Elements.{each_three}
 use Rattle.proto_checks.proofs.file.file_fault.Goals as goal

@@ -1,5 +1,4 @@
-use Rattle.proto_checks.specs.Checks.{names_of}
-use Rattle.proto_base.proofs.Sets.{least_union}
+use Rattle.proto_checks.proofs.Common.{names_of, least_union}
 use Rattle.proto_checks.proofs.Elements.{least_flat}
 use Rattle.proto_checks.proofs.file.names_fault.Goals as goal
 

@@ -1,6 +1,4 @@
-use Rattle.std.proofs.Common.{◌≡◌, take}
-use Rattle.std.specs.Prelude.{flat_map}
-use Rattle.proto_checks.specs.Gathered.{bounds_of}
+use Rattle.proto_checks.proofs.Common.{◌≡◌, take, flat_map, bounds_of}
 use Rattle.proto_checks.proofs.gathered.bounds_of.Given as goal
 
 abbrev pub invariant-loop-range : goal.invariant-loop-range

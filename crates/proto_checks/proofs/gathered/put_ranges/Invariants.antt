@@ -1,6 +1,4 @@
-use Rattle.std.proofs.Common.{◌≡◌, ◌++◌}
-use Rattle.proto_options.specs.Statements.{ranges_in}
-use Rattle.proto_tree.specs.Items.{items_left}
+use Rattle.proto_checks.proofs.Common.{◌≡◌, ◌++◌, ranges_in, items_left}
 use Rattle.proto_checks.proofs.gathered.put_ranges.Given as goal
 
 abbrev pub invariant-loop-range : goal.invariant-loop-range

@@ -1,6 +1,4 @@
-use Rattle.std.proofs.Common.{◌≡◌, take}
-use Rattle.std.specs.Prelude.{flat_map}
-use Rattle.proto_options.specs.Statements.{ranges_in}
+use Rattle.proto_checks.proofs.Common.{◌≡◌, take, flat_map, ranges_in}
 use Rattle.proto_checks.proofs.gathered.ranges_listed.Given as goal
 
 abbrev pub invariant-loop-item : goal.invariant-loop-item

@@ -1,5 +1,4 @@
-use Rattle.std.proofs.Common.{◌≡◌, take}
-use Rattle.proto_checks.specs.Gathered.{value_numbers}
+use Rattle.proto_checks.proofs.Common.{◌≡◌, take, value_numbers}
 use Rattle.proto_checks.proofs.gathered.value_numbers.Given as goal
 
 abbrev pub invariant-loop-item : goal.invariant-loop-item

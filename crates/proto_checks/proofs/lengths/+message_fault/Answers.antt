@@ -1,6 +1,4 @@
-use Rattle.std.proofs.Common.{arith}
-use Rattle.proto_desc.specs.DeclaredNames.{declared_by_message}
-use Rattle.proto_base.proofs.Among.{least_cons, behind_none, behind_more, behind_all}
+use Rattle.proto_checks.proofs.Common.{arith, declared_by_message, least_cons, behind_none, behind_more, behind_all}
 use Rattle.proto_desc.proofs.Declared.{own_declared, declared_before, declared_out, scope_in}
 use Rattle.proto_checks.proofs.lengths.+message_fault.Goals as goal
 

@@ -1,9 +1,4 @@
-use Rattle.std.proofs.Common.{take, ◌++◌}
-use Rattle.std.specs.Prelude.{flat_map}
-use Rattle.proto_desc.specs.DeclaredNames.{declared_by_message}
-use Rattle.proto_checks.specs.Checks.{IsTooLong}
-use Rattle.proto_base.specs.Least.{IsLeast}
-use Rattle.proto_base.specs.Sets.{Each}
+use Rattle.proto_checks.proofs.Common.{take, ◌++◌, flat_map, declared_by_message, IsTooLong, IsLeast, Each}
 use Rattle.proto_desc.proofs.Declared.{declared_before, scope_in}
 use Rattle.proto_checks.proofs.Elements.{InScope}
 use Rattle.proto_checks.proofs.lengths.+message_fault.Given as goal

@@ -1,5 +1,4 @@
-use Rattle.std.proofs.Common.{arith}
-use Rattle.proto_base.proofs.Among.{flat_more, flat_all}
+use Rattle.proto_checks.proofs.Common.{arith, flat_more, flat_all}
 use Rattle.proto_checks.proofs.lengths.first_length_fault.Goals as goal
 
 pub loop-element-preserved : goal.loop-element-preserved

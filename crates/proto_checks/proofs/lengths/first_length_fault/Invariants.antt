@@ -1,9 +1,5 @@
-use Rattle.std.proofs.Common.{◌≡◌, ℕ, List, take}
-use Rattle.std.specs.Prelude.{flat_map}
-use Rattle.proto_checks.specs.Checks.{IsTooLong}
-use Rattle.proto_base.specs.Least.{IsLeast}
+use Rattle.proto_checks.proofs.Common.{◌≡◌, ℕ, List, take, flat_map, IsTooLong, IsLeast, Each}
 use Rattle.proto_checks.specs.Lengths.{capped}
-use Rattle.proto_base.specs.Sets.{Each}
 use Rattle.proto_checks.proofs.lengths.first_length_fault.Given as goal
 
 abbrev pub invariant-loop-element : goal.invariant-loop-element

@@ -1,4 +1,4 @@
-use Rattle.proto_base.proofs.Among.{least_append}
+use Rattle.proto_checks.proofs.Common.{least_append}
 use Rattle.proto_checks.proofs.lengths.inside_fault.Goals as goal
 
 pub returns : goal.returns

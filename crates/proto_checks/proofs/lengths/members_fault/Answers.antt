@@ -1,6 +1,4 @@
-use Rattle.std.proofs.Common.{sym, arith}
-use Rattle.proto_base.proofs.Among.{each_map}
-use Rattle.proto_base.proofs.Sets.{each_more, each_all}
+use Rattle.proto_checks.proofs.Common.{sym, arith, each_map, each_more, each_all}
 use Rattle.proto_checks.proofs.lengths.members_fault.Goals as goal
 
 pub loop-member-preserved : goal.loop-member-preserved

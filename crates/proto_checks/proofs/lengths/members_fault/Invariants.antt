@@ -1,4 +1,4 @@
-use Rattle.proto_checks.specs.Checks.{IsTooLong}
+use Rattle.proto_checks.proofs.Common.{IsTooLong}
 use Rattle.proto_checks.proofs.Elements.{InScope, LeastOf}
 use Rattle.proto_checks.proofs.lengths.members_fault.Given as goal
 

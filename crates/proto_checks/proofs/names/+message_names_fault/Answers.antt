@@ -1,6 +1,4 @@
-use Rattle.std.proofs.Common.{[], ◌∷◌, arith}
-use Rattle.proto_checks.specs.Checks.{names_of}
-use Rattle.proto_base.proofs.Among.{least_single, behind_more, behind_all}
+use Rattle.proto_checks.proofs.Common.{[], ◌∷◌, arith, names_of, least_single, behind_more, behind_all}
 use Rattle.proto_checks.proofs.Named.{own_names, names_out}
 use Rattle.proto_checks.proofs.names.+message_names_fault.Goals as goal
 

@@ -1,8 +1,4 @@
-use Rattle.std.proofs.Common.{take, ◌∷◌}
-use Rattle.std.specs.Prelude.{flat_map}
-use Rattle.proto_checks.specs.Checks.{MessageNamesBreak, names_of}
-use Rattle.proto_base.specs.Least.{IsLeast}
-use Rattle.proto_base.specs.Sets.{Each}
+use Rattle.proto_checks.proofs.Common.{take, ◌∷◌, flat_map, MessageNamesBreak, names_of, IsLeast, Each}
 use Rattle.proto_checks.proofs.Named.{own_names}
 use Rattle.proto_checks.proofs.names.+message_names_fault.Given as goal
 

@@ -1,4 +1,4 @@
-use Rattle.proto_base.proofs.Sets.{least_union}
+use Rattle.proto_checks.proofs.Common.{least_union}
 use Rattle.proto_checks.proofs.names.own_names_fault.Goals as goal
 
 pub returns : goal.returns

@@ -1,8 +1,4 @@
-use Rattle.std.proofs.Common.{◌≡◌, sym, arith, Option, false}
-use Rattle.std.proofs.lemmas.Bool.{false≢true}
-use Rattle.std.specs.Option.{is_some}
-use Rattle.proto_base.specs.Least.{IsLeast}
-use Rattle.proto_base.specs.declared.spot.Spot.{Spot}
+use Rattle.proto_checks.proofs.Common.{◌≡◌, sym, arith, Option, false, false≢true, is_some, IsLeast, Spot}
 use Rattle.proto_checks.proofs.numbers.first_value_twice.Goals as goal
 use Rattle.proto_checks.proofs.numbers.first_value_twice.Goals.{else-is_some-via-then-is_some+else-is_aliasing, else-is_some-via-else-is_some}
 

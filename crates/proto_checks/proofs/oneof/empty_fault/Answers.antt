@@ -1,6 +1,4 @@
-use Rattle.std.proofs.Common.{arith}
-use Rattle.std.proofs.lemmas.Grind.{common_steps}
-use Rattle.proto_base.proofs.Sets.{least_hit, least_miss}
+use Rattle.proto_checks.proofs.Common.{arith, common_steps, least_hit, least_miss}
 use Rattle.proto_checks.proofs.Elements.{members_told}
 use Rattle.proto_checks.proofs.oneof.empty_fault.Goals as goal
 

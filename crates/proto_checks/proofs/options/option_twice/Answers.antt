@@ -1,5 +1,4 @@
-use Rattle.proto_checks.specs.Judged.{judged_name}
-use Rattle.proto_base.proofs.Among.{later_map, if_ok}
+use Rattle.proto_checks.proofs.Common.{judged_name, later_map, if_ok}
 use Rattle.proto_checks.proofs.options.option_twice.Goals as goal
 
 pub returns : goal.returns

@@ -1,5 +1,4 @@
-use Rattle.std.proofs.Common.{sym, arith}
-use Rattle.proto_base.proofs.Sets.{each_more, each_all, least_known}
+use Rattle.proto_checks.proofs.Common.{sym, arith, each_more, each_all, least_known}
 use Rattle.proto_checks.proofs.options.own_fault.Goals as goal
 
 pub loop-setting-preserved : goal.loop-setting-preserved

@@ -1,4 +1,4 @@
-use Rattle.proto_checks.specs.Judged.{IsFaultOf}
+use Rattle.proto_checks.proofs.Common.{IsFaultOf}
 use Rattle.proto_checks.proofs.Elements.{LeastOf}
 use Rattle.proto_checks.proofs.options.own_fault.Given as goal
 

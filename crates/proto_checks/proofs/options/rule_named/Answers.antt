@@ -1,10 +1,6 @@
-use Rattle.std.proofs.Common.{◌∙◌, ap, rules, tests}
-use Rattle.std.specs.List.{find}
-use Rattle.std.specs.Option.{option_map}
+use Rattle.proto_checks.proofs.Common.{◌∙◌, ap, rules, tests, find, option_map, find_from_yields_List, is_known_by}
 use Rattle.std.proofs.lemmas.Iterator.{YieldsList-from_slice}
-use Rattle.std.proofs.lemmas.Iterator.Search.{find_from_yields_List}
 use Rattle.proto_desc.specs.Rules.{rule_of}
-use Rattle.proto_checks.specs.Judged.{is_known_by}
 use Rattle.proto_checks.proofs.Settling.{found_made}
 use Rattle.proto_checks.proofs.options.rule_named.Goals as goal
 

@@ -1,6 +1,5 @@
-use Rattle.std.proofs.Common.{ap}
+use Rattle.proto_checks.proofs.Common.{ap, least_union}
 use Rattle.proto_tree.specs.declared.name.FullName.{FullName}
-use Rattle.proto_base.proofs.Sets.{least_union}
 use Rattle.proto_checks.proofs.package.length_fault.Goals as goal
 
 pub returns : goal.returns

@@ -1,7 +1,4 @@
-use Rattle.std.proofs.Common.{arith, refl}
-use Rattle.std.proofs.lemmas.Grind.{common_steps}
-use Rattle.proto_options.specs.Statements.{file_package}
-use Rattle.proto_base.proofs.Among.{flat_skip, flat_all}
+use Rattle.proto_checks.proofs.Common.{arith, refl, common_steps, file_package, flat_skip, flat_all}
 use Rattle.proto_checks.proofs.Elements.{flat_one}
 use Rattle.proto_checks.proofs.package.package_lengths_fault.Goals as goal
 use Rattle.proto_checks.proofs.package.package_lengths_fault.Goals.{in-Package, in_default}

@@ -1,5 +1,4 @@
-use Rattle.proto_options.specs.Statements.{file_package}
-use Rattle.proto_checks.specs.Checks.{PackageTooLong}
+use Rattle.proto_checks.proofs.Common.{file_package, PackageTooLong}
 use Rattle.proto_checks.proofs.Elements.{LeastTo}
 use Rattle.proto_checks.proofs.package.package_lengths_fault.Given as goal
 

@@ -1,8 +1,4 @@
-use Rattle.std.proofs.Common.{◌≡◌, [], arith, take_all}
-use Rattle.std.proofs.lemmas.List.{append-nil}
-use Rattle.proto_base.proofs.Among.{taken}
-use Rattle.std.proofs.lemmas.Grind.{common_steps}
-use Rattle.proto_options.specs.Statements.{file_package}
+use Rattle.proto_checks.proofs.Common.{◌≡◌, [], arith, take_all, append-nil, taken, common_steps, file_package}
 use Rattle.proto_checks.proofs.Clashes.{repeated_none, repeated_more}
 use Rattle.proto_checks.proofs.package.package_twice.Goals as goal
 use Rattle.proto_checks.proofs.package.package_twice.Goals.{in-Package, in_default}

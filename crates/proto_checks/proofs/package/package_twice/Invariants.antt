@@ -1,6 +1,4 @@
-use Rattle.std.proofs.Common.{take}
-use Rattle.std.specs.Prelude.{flat_map}
-use Rattle.proto_options.specs.Statements.{file_package}
+use Rattle.proto_checks.proofs.Common.{take, flat_map, file_package}
 use Rattle.proto_checks.proofs.Clashes.{Repeated}
 use Rattle.proto_checks.proofs.package.package_twice.Given as goal
 

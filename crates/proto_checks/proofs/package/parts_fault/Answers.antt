@@ -1,9 +1,5 @@
-use Rattle.std.proofs.Common.{◌∙◌, ap, sym, arith}
+use Rattle.proto_checks.proofs.Common.{◌∙◌, ap, sym, arith, IsPartTooLong, part_name, with_rest, with_more}
 use Rattle.proto_tree.specs.declared.name.FullName.{FullName}
-use Rattle.proto_checks.specs.Checks.{IsPartTooLong}
-use Rattle.proto_checks.specs.Parts.{part_name}
-use Rattle.proto_base.proofs.Among.{with_rest}
-use Rattle.proto_base.proofs.Sets.{with_more}
 use Rattle.proto_checks.proofs.package.parts_fault.Goals as goal
 
 pub returns : goal.returns

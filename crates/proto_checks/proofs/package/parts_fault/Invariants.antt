@@ -1,7 +1,4 @@
-use Rattle.proto_checks.specs.Checks.{IsPartTooLong}
-use Rattle.proto_checks.specs.Parts.{part_name}
-use Rattle.proto_base.specs.Least.{IsLeast}
-use Rattle.proto_base.proofs.Sets.{WithTo}
+use Rattle.proto_checks.proofs.Common.{IsPartTooLong, part_name, IsLeast, WithTo}
 use Rattle.proto_checks.proofs.package.parts_fault.Given as goal
 
 abbrev pub invariant-loop-part : goal.invariant-loop-part

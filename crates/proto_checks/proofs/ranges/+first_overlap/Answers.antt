@@ -1,9 +1,6 @@
-use Rattle.std.proofs.Common.{arith, rules}
-use Rattle.std.proofs.lemmas.List.Sorted.{answers_always}
+use Rattle.proto_checks.proofs.Common.{arith, rules, answers_always, spot, Share}
 use Rattle.proto_checks.proofs.Clashes.{later_append, is_apart, ranges_none}
 use Rattle.proto_base.specs.declared.kind.Kind.TheVariants as kind
-use Rattle.proto_base.specs.Least.{spot}
-use Rattle.proto_checks.specs.Marks.{Share}
 use Rattle.proto_checks.proofs.ranges.+first_overlap.Goals as goal
 
 pub returns-then-is_sorted_by : goal.returns-then-is_sorted_by

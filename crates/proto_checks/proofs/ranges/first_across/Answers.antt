@@ -1,5 +1,4 @@
-use Rattle.std.proofs.Common.{arith, get_or}
-use Rattle.proto_base.proofs.Sets.{item_at, each_all}
+use Rattle.proto_checks.proofs.Common.{arith, get_or, item_at, each_all}
 use Rattle.proto_checks.proofs.Elements.{hit_more, miss_more, no_range}
 use Rattle.proto_checks.proofs.Intervals.{shared_told}
 use Rattle.proto_checks.proofs.ranges.first_across.Goals as goal

@@ -1,5 +1,4 @@
-use Rattle.std.proofs.Common.{arith}
-use Rattle.proto_base.proofs.Sets.{item_at, each_all}
+use Rattle.proto_checks.proofs.Common.{arith, item_at, each_all}
 use Rattle.proto_checks.proofs.Elements.{hit_more, miss_more, no_range}
 use Rattle.proto_checks.proofs.ranges.first_backwards.Goals as goal
 use Rattle.proto_checks.proofs.ranges.first_backwards.Goals.{then-range, else-range}

@@ -1,4 +1,4 @@
-use Rattle.proto_checks.specs.Marks.{IsBackwards}
+use Rattle.proto_checks.proofs.Common.{IsBackwards}
 use Rattle.proto_checks.proofs.Elements.{LeastOf}
 use Rattle.proto_checks.proofs.ranges.first_backwards.Given as goal
 

@@ -1,6 +1,4 @@
-use Rattle.std.proofs.Common.{arith}
-use Rattle.proto_base.proofs.Sets.{item_at, each_all}
-use Rattle.proto_checks.specs.Marks.{IsReserved}
+use Rattle.proto_checks.proofs.Common.{arith, item_at, each_all, IsReserved}
 use Rattle.proto_checks.proofs.Elements.{hit_more, miss_more, no_number}
 use Rattle.proto_checks.proofs.ranges.first_reserved_number.Goals as goal
 use Rattle.proto_checks.proofs.ranges.first_reserved_number.Goals.{then-is_held, else-is_held}

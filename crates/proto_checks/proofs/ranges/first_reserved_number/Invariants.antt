@@ -1,4 +1,4 @@
-use Rattle.proto_checks.specs.Marks.{IsReserved}
+use Rattle.proto_checks.proofs.Common.{IsReserved}
 use Rattle.proto_checks.proofs.Elements.{LeastOf}
 use Rattle.proto_checks.proofs.ranges.first_reserved_number.Given as goal
 

@@ -1,8 +1,4 @@
-use Rattle.std.proofs.Common.{arith, leb}
-use Rattle.std.proofs.lemmas.Bool.{and_from, and_parts}
-use Rattle.std.proofs.lemmas.Bool.Decides.{nat_tests}
-use Rattle.std.proofs.lemmas.Iterator.Search.{any_from_yields_List}
-use Rattle.std.proofs.lemmas.List.Folds.{list_any-from_Any}
+use Rattle.proto_checks.proofs.Common.{arith, leb, and_from, and_parts, nat_tests, any_from_yields_List, list_any-from_Any}
 use Rattle.proto_checks.proofs.Intervals.{used_told}
 use Rattle.proto_checks.proofs.ranges.is_held.Goals as goal
 

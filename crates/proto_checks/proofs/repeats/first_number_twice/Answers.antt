@@ -1,8 +1,5 @@
-use Rattle.std.proofs.Common.{◌∙◌, sym, arith, refl, rules}
-use Rattle.std.proofs.lemmas.Bool.{not-false, not-true}
-use Rattle.std.proofs.lemmas.List.Sorted.{answers_always}
+use Rattle.proto_checks.proofs.Common.{◌∙◌, sym, arith, refl, rules, not-false, not-true, answers_always, exact_number, later_all, passed_clash, passed_skip, item_at}
 use Rattle.proto_checks.proofs.Elements.{no_number}
-use Rattle.proto_base.proofs.Sets.{exact_number, later_all, passed_clash, passed_skip, item_at}
 use Rattle.proto_checks.proofs.Clashes.{numbers_none, is_less}
 use Rattle.proto_checks.proofs.repeats.first_number_twice.Goals as goal
 use Rattle.proto_checks.proofs.repeats.first_number_twice.Goals.{then-not-branch, else-not-branch}

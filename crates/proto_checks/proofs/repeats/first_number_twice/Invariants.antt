@@ -1,7 +1,4 @@
-use Rattle.std.specs.Ordering.{nat_cmp}
-use Rattle.proto_base.specs.Least.{spot}
-use Rattle.proto_checks.specs.declared.marks.MarkedNumber.{MarkedNumber}
-use Rattle.proto_base.proofs.Sets.{Passed}
+use Rattle.proto_checks.proofs.Common.{nat_cmp, spot, MarkedNumber, Passed}
 use Rattle.proto_checks.proofs.repeats.first_number_twice.Given as goal
 
 abbrev pub invariant-loop-marked : goal.invariant-loop-marked

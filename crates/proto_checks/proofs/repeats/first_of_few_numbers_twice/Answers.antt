@@ -1,7 +1,4 @@
-use Rattle.std.proofs.Common.{◌∙◌, sym, arith, get_or}
-use Rattle.std.proofs.lemmas.Bool.Decides.{Decides-eqb}
-use Rattle.proto_base.proofs.Sets.{later_all, item_at}
-use Rattle.proto_checks.specs.declared.marks.MarkedNumber.{MarkedNumber}
+use Rattle.proto_checks.proofs.Common.{◌∙◌, sym, arith, get_or, Decides-eqb, later_all, item_at, MarkedNumber}
 use Rattle.proto_checks.proofs.Clashes.{few_clash, few_skip}
 use Rattle.proto_checks.proofs.Elements.{no_number}
 use Rattle.proto_checks.proofs.repeats.first_of_few_numbers_twice.Goals as goal

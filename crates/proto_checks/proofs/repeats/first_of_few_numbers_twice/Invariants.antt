@@ -1,7 +1,4 @@
-use Rattle.std.proofs.Common.{◌≡◌}
-use Rattle.proto_base.specs.Least.{IsLeast, spot}
-use Rattle.proto_base.proofs.Sets.{LaterTo}
-use Rattle.proto_checks.specs.declared.marks.MarkedNumber.{MarkedNumber}
+use Rattle.proto_checks.proofs.Common.{◌≡◌, IsLeast, spot, LaterTo, MarkedNumber}
 use Rattle.proto_checks.proofs.repeats.first_of_few_numbers_twice.Given as goal
 
 abbrev pub invariant-loop-index : goal.invariant-loop-index

@@ -1,8 +1,5 @@
-use Rattle.std.proofs.Common.{◌∙◌, sym, arith, length, ◌%◌, true}
-use Rattle.std.proofs.lemmas.List.{length-map, length-set, take-map}
+use Rattle.proto_checks.proofs.Common.{◌∙◌, sym, arith, length, ◌%◌, true, length-map, length-set, take-map, later_all, Marked}
 use Rattle.std.proofs.lemmas.Slice.Eq.{bytes_eq-Decides}
-use Rattle.proto_base.proofs.Sets.{later_all}
-use Rattle.proto_checks.specs.Marks.{Marked}
 use Rattle.proto_checks.proofs.Clashes.{stands_made, few_clash, few_skip, taken_more, untaken_skip}
 use Rattle.proto_checks.proofs.repeats.first_of_few_texts_twice.Goals as goal
 use Rattle.proto_checks.proofs.repeats.first_of_few_texts_twice.Goals.{

@@ -1,7 +1,4 @@
-use Rattle.std.proofs.Common.{◌≡◌, map, length}
-use Rattle.proto_base.specs.Least.{IsLeast, spot}
-use Rattle.proto_base.proofs.Sets.{LaterTo}
-use Rattle.proto_checks.specs.Marks.{Marked}
+use Rattle.proto_checks.proofs.Common.{◌≡◌, map, length, IsLeast, spot, LaterTo, Marked}
 use Rattle.proto_checks.proofs.Clashes.{AreTaken}
 use Rattle.proto_checks.proofs.repeats.first_of_few_texts_twice.Given as goal
 

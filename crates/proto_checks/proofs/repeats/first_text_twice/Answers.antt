@@ -1,7 +1,4 @@
-use Rattle.std.proofs.Common.{◌∙◌, sym, arith, refl}
-use Rattle.std.proofs.lemmas.Bool.{not-false, not-true}
-use Rattle.std.proofs.lemmas.List.{length-map}
-use Rattle.proto_base.proofs.Sets.{exact_text, later_all, passed_clash, passed_skip}
+use Rattle.proto_checks.proofs.Common.{◌∙◌, sym, arith, refl, not-false, not-true, length-map, exact_text, later_all, passed_clash, passed_skip}
 use Rattle.proto_checks.proofs.Clashes.{stands_made}
 use Rattle.proto_checks.proofs.repeats.first_text_twice.Goals as goal
 use Rattle.proto_checks.proofs.repeats.first_text_twice.Goals.{then-not-branch, else-not-branch}

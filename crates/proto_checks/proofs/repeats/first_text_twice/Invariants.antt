@@ -1,7 +1,4 @@
-use Rattle.std.proofs.Common.{map}
-use Rattle.proto_base.specs.Least.{spot}
-use Rattle.proto_checks.specs.Marks.{Marked}
-use Rattle.proto_base.proofs.Sets.{Passed, text_cmp}
+use Rattle.proto_checks.proofs.Common.{map, spot, Marked, Passed, text_cmp}
 use Rattle.proto_checks.proofs.repeats.first_text_twice.Given as goal
 
 abbrev pub invariant-loop-item : goal.invariant-loop-item

@@ -1,8 +1,5 @@
-use Rattle.std.proofs.Common.{◌∙◌, rules, tests}
-use Rattle.std.specs.Prelude.{bytes_eq}
+use Rattle.proto_checks.proofs.Common.{◌∙◌, rules, tests, bytes_eq, any_from_yields_List, Marked}
 use Rattle.std.proofs.lemmas.Iterator.{YieldsList-from_slice}
-use Rattle.std.proofs.lemmas.Iterator.Search.{any_from_yields_List}
-use Rattle.proto_checks.specs.Marks.{Marked}
 use Rattle.proto_checks.proofs.Clashes.{any_made}
 use Rattle.proto_checks.proofs.repeats.text_stands_in.Goals as goal
 

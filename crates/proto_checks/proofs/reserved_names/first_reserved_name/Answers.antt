@@ -1,9 +1,4 @@
-use Rattle.std.proofs.Common.{arith, [], ap}
-use Rattle.std.proofs.lemmas.List.{length-map}
-use Rattle.proto_desc.specs.DeclaredNames.{Declared}
-use Rattle.proto_base.proofs.Sets.{each_all}
-use Rattle.proto_checks.specs.Marks.{Marked}
-use Rattle.proto_checks.specs.Parts.{name_mark}
+use Rattle.proto_checks.proofs.Common.{arith, [], ap, length-map, Declared, each_all, Marked, name_mark}
 use Rattle.proto_checks.proofs.Clashes.{stands_made}
 use Rattle.proto_checks.proofs.Elements.{hit_more, miss_more}
 use Rattle.proto_checks.proofs.reserved_names.first_reserved_name.Goals as goal

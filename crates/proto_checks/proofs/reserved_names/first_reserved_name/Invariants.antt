@@ -1,6 +1,4 @@
-use Rattle.std.proofs.Common.{map}
-use Rattle.proto_checks.specs.Marks.{IsReservedName}
-use Rattle.proto_checks.specs.Parts.{name_mark}
+use Rattle.proto_checks.proofs.Common.{map, IsReservedName, name_mark}
 use Rattle.proto_checks.proofs.Elements.{LeastOf}
 use Rattle.proto_checks.proofs.reserved_names.first_reserved_name.Given as goal
 

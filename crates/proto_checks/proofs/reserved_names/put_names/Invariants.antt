@@ -1,7 +1,4 @@
-use Rattle.std.proofs.Common.{◌≡◌, ◌++◌, map}
-use Rattle.proto_options.specs.Statements.{names_in}
-use Rattle.proto_tree.specs.Items.{items_left}
-use Rattle.proto_checks.specs.Gathered.{reserved_name}
+use Rattle.proto_checks.proofs.Common.{◌≡◌, ◌++◌, map, names_in, items_left, reserved_name}
 use Rattle.proto_checks.proofs.reserved_names.put_names.Given as goal
 
 abbrev pub invariant-loop-name : goal.invariant-loop-name

@@ -1,7 +1,4 @@
-use Rattle.std.proofs.Common.{◌≡◌, map, take}
-use Rattle.std.specs.Prelude.{flat_map}
-use Rattle.proto_options.specs.Statements.{names_in}
-use Rattle.proto_checks.specs.Gathered.{reserved_name}
+use Rattle.proto_checks.proofs.Common.{◌≡◌, map, take, flat_map, names_in, reserved_name}
 use Rattle.proto_checks.proofs.reserved_names.reserved_names.Given as goal
 
 abbrev pub invariant-loop-item : goal.invariant-loop-item

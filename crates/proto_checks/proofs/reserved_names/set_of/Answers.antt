@@ -1,12 +1,7 @@
-use Rattle.std.proofs.Common.{arith, ◌≡◌, ℕ, ◌+◌, ◌<◌, List, [], ◌∷◌, ◌++◌, length, get_or, take}
-use Rattle.std.specs.Prelude.{true}
+use Rattle.proto_checks.proofs.Common.{arith, ◌≡◌, ℕ, ◌+◌, ◌<◌, List, [], ◌∷◌, ◌++◌, length, get_or, take, true, is_eq, take_more, Contains-append_left, Contains-push, Contains-push_cases, text_cmp, exact_text, cond_or, cond_right}
 use Rattle.std.specs.BTreeSet.{BTreeSet, Updates}
-use Rattle.std.specs.Ordering.{is_eq}
-use Rattle.std.proofs.lemmas.List.{take_more}
-use Rattle.std.proofs.lemmas.List.Elements.{Contains-append_left, Contains-push, Contains-push_cases}
 use denote.Ref.{Bor}
 use Rattle.proto_checks.specs.NameSets.{HoldsJust}
-use Rattle.proto_base.proofs.Sets.{text_cmp, exact_text, cond_or, cond_right}
 use Rattle.proto_checks.proofs.reserved_names.set_of.Goals as goal
 
 set_push : (names : List (List ℕ)) (s t : BTreeSet (Bor (List ℕ))) (k : Bor (List ℕ)) → Updates text_cmp s t k true

@@ -1,5 +1,4 @@
-use Rattle.proto_options.specs.Statements.{service_rpc}
-use Rattle.proto_base.proofs.Sets.{least_union}
+use Rattle.proto_checks.proofs.Common.{service_rpc, least_union}
 use Rattle.proto_checks.proofs.Elements.{least_flat}
 use Rattle.proto_checks.proofs.service.service_fault.Goals as goal
 

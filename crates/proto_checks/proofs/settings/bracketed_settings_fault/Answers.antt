@@ -1,7 +1,5 @@
-use Rattle.std.proofs.Common.{◌≡◌, [], arith}
-use Rattle.std.proofs.lemmas.Grind.{common_steps}
+use Rattle.proto_checks.proofs.Common.{◌≡◌, [], arith, common_steps, if_ok}
 use Rattle.proto_options.specs.Options.{bracketed}
-use Rattle.proto_base.proofs.Among.{if_ok}
 use Rattle.proto_checks.proofs.Settling.{one_least}
 use Rattle.proto_checks.proofs.settings.bracketed_settings_fault.Goals as goal
 

@@ -1,7 +1,4 @@
-use Rattle.std.proofs.Common.{◌≡◌, ◌++◌, map}
-use Rattle.proto_tree.specs.Items.{items_left}
-use Rattle.proto_tree.specs.Lists.{separated}
-use Rattle.proto_checks.specs.Judged.{judged}
+use Rattle.proto_checks.proofs.Common.{◌≡◌, ◌++◌, map, items_left, separated, judged}
 use Rattle.proto_checks.proofs.settings.put_bracketed.Given as goal
 
 abbrev pub invariant-loop-setting : goal.invariant-loop-setting

@@ -1,6 +1,4 @@
-use Rattle.std.proofs.Common.{◌≡◌, take, map}
-use Rattle.std.specs.Prelude.{flat_map}
-use Rattle.proto_checks.specs.Judged.{judged}
+use Rattle.proto_checks.proofs.Common.{◌≡◌, take, map, flat_map, judged}
 use Rattle.proto_checks.proofs.settings.settings_of.Given as goal
 
 abbrev pub invariant-loop-item : goal.invariant-loop-item

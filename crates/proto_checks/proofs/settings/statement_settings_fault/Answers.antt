@@ -1,5 +1,4 @@
-use Rattle.std.proofs.Common.{arith}
-use Rattle.proto_base.proofs.Among.{if_ok}
+use Rattle.proto_checks.proofs.Common.{arith, if_ok}
 use Rattle.proto_checks.proofs.settings.statement_settings_fault.Goals as goal
 
 pub returns : goal.returns

@@ -1,5 +1,4 @@
-use Rattle.std.proofs.Common.{arith}
-use Rattle.proto_compile.specs.Steps.{compilation}
+use Rattle.proto_compile.proofs.Common.{arith, compilation}
 use Rattle.proto_compile.proofs.LeastFault.{told, set_least}
 use Rattle.proto_compile.proofs.Making.{counts, sound}
 use Rattle.proto_compile.proofs.compiling.compilation_of.Goals as goal

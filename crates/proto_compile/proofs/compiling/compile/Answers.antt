@@ -1,11 +1,5 @@
-use Rattle.std.proofs.Common.{arith, ◌≡◌, refl, List, Result, Ok, Err, IfErr, IfOk, IsErrAnd, MatchResult}
-use Rattle.std.proofs.lemmas.Result.{IfOk-weaker}
-use Rattle.proto_base.specs.declared.limits.Limits.{Limits}
-use Rattle.proto_compile.specs.Compilation.{Compilation, IsCompiled}
-use Rattle.proto_compile.specs.FaultSet.{IsLeastFault, IsPlaced, SourceFault, TellsOf, told_by}
-use Rattle.proto_compile.specs.declared.error.CompileError.{CompileError}
+use Rattle.proto_compile.proofs.Common.{arith, ◌≡◌, refl, List, Result, Ok, Err, IfErr, IfOk, IsErrAnd, MatchResult, IfOk-weaker, Limits, Compilation, IsCompiled, IsLeastFault, IsPlaced, SourceFault, TellsOf, told_by, CompileError, Source}
 use Rattle.proto_compile.specs.declared.error.CompileError.TheVariants as errors
-use Rattle.proto_compile.specs.declared.source.Source.{Source}
 use Rattle.proto_compile.proofs.LeastFault.{err_tells, no_fault_at_all, one_least}
 use Rattle.proto_compile.proofs.OneCompilation.{one_compilation}
 use Rattle.proto_compile.proofs.Placing.{placed}

@@ -1,11 +1,7 @@
-use Rattle.std.proofs.Common.{get_or-take, map, ◌≡◌, ◌<◌, ◌+◌, ◌++◌, ◌∷◌, [], ◌∙◌, arith, length, length-append}
-use Rattle.std.proofs.lemmas.List.{length-map, map-append, take_more}
+use Rattle.proto_compile.proofs.Common.{get_or-take, map, ◌≡◌, ◌<◌, ◌+◌, ◌++◌, ◌∷◌, [], ◌∙◌, arith, length, length-append, length-map, map-append, take_more, file_bytes, names_differ, items_of}
 use Rattle.std.proofs.lemmas.Iterator.Adapters.{YieldsList-from_vec}
 use Rattle.std.proofs.lemmas.Iterator.Consumers.{YieldsList-turn}
-use Rattle.proto_compile.specs.Compilation.{file_bytes}
 use Rattle.proto_compile.specs.Sources.{name_of}
-use Rattle.proto_links.proofs.NameRows.{names_differ}
-use Rattle.proto_compile.specs.Steps.{items_of}
 use Rattle.proto_compile.proofs.Sorting.{name_is}
 use Rattle.proto_compile.proofs.OneTyping.{as_many}
 use Rattle.proto_compile.proofs.compiling.table_of.Goals as goal

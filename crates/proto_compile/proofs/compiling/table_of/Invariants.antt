@@ -1,7 +1,5 @@
-use Rattle.std.proofs.Common.{◌≡◌, length, map, take}
-use Rattle.proto_compile.specs.Compilation.{file_bytes, file_name}
+use Rattle.proto_compile.proofs.Common.{◌≡◌, length, map, take, file_bytes, file_name, items_of}
 use Rattle.proto_compile.specs.Sources.{name_of}
-use Rattle.proto_compile.specs.Steps.{items_of}
 use Rattle.proto_compile.proofs.compiling.table_of.Given as goal
 
 abbrev pub invariant-loop-bytes : goal.invariant-loop-bytes

@@ -1,5 +1,4 @@
-use Rattle.std.proofs.Common.{arith, ◌∙◌, rules}
-use Rattle.std.proofs.lemmas.List.{length-map}
+use Rattle.proto_compile.proofs.Common.{arith, ◌∙◌, rules, length-map}
 use Rattle.proto_compile.proofs.compiling.write_table.Goals as goal
 
 pub table_of-requires-clause-length : goal.table_of-requires-clause-length

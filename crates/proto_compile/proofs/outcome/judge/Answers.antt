@@ -1,16 +1,10 @@
-use Rattle.std.proofs.Common.{◌≡◌, ◌∙◌, sym, ap, arith, subst, map-id, length, map, take, get_or, ◌<◌, ◌++◌, ◌∷◌, [], ℕ, List, Result, Ok, Err, get_or-take}
-use Rattle.std.proofs.lemmas.List.{get_or_default, get_or-map, length-map, map-append}
+use Rattle.proto_compile.proofs.Common.{◌≡◌, ◌∙◌, sym, ap, arith, subst, map-id, length, map, take, get_or, ◌<◌, ◌++◌, ◌∷◌, [], ℕ, List, Result, Ok, Err, get_or-take, get_or_default, get_or-map, length-map, map-append, TellsOf, IsFirstFound, TellsOfFile, name_at, CompileError, Source}
 use Rattle.std.proofs.lemmas.Iterator.Adapters.{YieldsList-from_vec}
 use Rattle.std.proofs.lemmas.Iterator.Consumers.{YieldsList-so_far, YieldsList-turn}
 use Rattle.proto_base.specs.declared.file_fault.FileError.{FileError}
 use Rattle.proto_base.specs.declared.file_fault.FileError.TheVariants as fault
-use Rattle.proto_compile.specs.FaultSet.{TellsOf}
-use Rattle.proto_compile.specs.Outcomes.{IsFirstFound, TellsOfFile}
 use Rattle.proto_compile.specs.Passes.{number_of}
-use Rattle.proto_compile.specs.Sources.{name_at}
-use Rattle.proto_compile.specs.declared.error.CompileError.{CompileError}
 use Rattle.proto_compile.specs.declared.error.CompileError.TheVariants as errors
-use Rattle.proto_compile.specs.declared.source.Source.{Source}
 use Rattle.proto_compile.proofs.OneTyping.{item_at}
 use Rattle.proto_compile.proofs.Sorting.{name_is}
 use Rattle.proto_compile.proofs.outcome.judge.Goals as goal

@@ -1,5 +1,4 @@
-use Rattle.std.proofs.Common.{arith}
-use Rattle.std.proofs.lemmas.List.Elements.{Contains-get_or}
+use Rattle.proto_compile.proofs.Common.{arith, Contains-get_or}
 use Rattle.proto_compile.proofs.set.set_bytes.Goals as goal
 
 pub bytes-requires : goal.bytes-requires

@@ -1,8 +1,5 @@
-use Rattle.std.proofs.Common.{arith, ℕ}
+use Rattle.proto_compile.proofs.Common.{arith, ℕ, bytes_field, bytes_at, Contains-get_or}
 use Rattle.std.proofs.lemmas.List.Folds.{length-flat_map-take}
-use Rattle.wire_format.specs.Field.{bytes_field}
-use Rattle.proto_compile.specs.Compilation.{bytes_at}
-use Rattle.std.proofs.lemmas.List.Elements.{Contains-get_or}
 use Rattle.proto_compile.proofs.set.set_len.Goals as goal
 
 pub bytes-requires : goal.bytes-requires

@@ -1,6 +1,4 @@
-use Rattle.std.proofs.Common.{◌≡◌, ◌≤◌, length, take, flat_map}
-use Rattle.proto_compile.specs.Compilation.{bytes_at}
-use Rattle.wire_format.specs.Field.{bytes_field}
+use Rattle.proto_compile.proofs.Common.{◌≡◌, ◌≤◌, length, take, flat_map, bytes_at, bytes_field}
 use Rattle.proto_compile.proofs.set.set_len.Given as goal
 
 abbrev pub invariant-loop-file : goal.invariant-loop-file

@@ -1,6 +1,4 @@
-use Rattle.std.proofs.Common.{◌∙◌, sym, arith}
-use Rattle.std.proofs.lemmas.Bool.{false≢true}
-use Rattle.proto_links.specs.Imports.{missing, cyclic}
+use Rattle.proto_links.proofs.Common.{◌∙◌, sym, arith, false≢true, missing, cyclic}
 use Rattle.proto_links.proofs.Faulting.{only_missing, only_cyclic, no_fault}
 use Rattle.proto_links.proofs.faults.fault_of.Goals as goal
 

@@ -1,7 +1,4 @@
-use Rattle.std.proofs.Common.{◌∙◌, sym, arith}
-use Rattle.digraph.proofs.Gathering.{joined_two}
-use Rattle.digraph.specs.Edges.{graph_of}
-use Rattle.digraph.proofs.Rows.{edge_below, length_graph}
+use Rattle.proto_links.proofs.Common.{◌∙◌, sym, arith, joined_two, edge_below, length_graph, graph_of}
 use Rattle.proto_links.proofs.Faulting.{none_more, first_bad_is, reaching_is, imports_is, importer_inside}
 use Rattle.proto_links.proofs.faults.first_bad.Goals as goal
 

@@ -1,6 +1,4 @@
-use Rattle.std.proofs.Common.{take}
-use Rattle.proto_base.specs.Least.{IsLeast}
-use Rattle.proto_links.specs.Graphs.{IsWrongIn}
+use Rattle.proto_links.proofs.Common.{take, IsLeast, IsWrongIn}
 use Rattle.proto_links.proofs.faults.first_wrong.Given as goal
 
 abbrev pub invariant-loop-import : goal.invariant-loop-import

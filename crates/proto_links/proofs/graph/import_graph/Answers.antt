@@ -1,7 +1,4 @@
-use Rattle.std.proofs.Common.{◌∙◌, sym, ap, arith, inl, inr}
-use Rattle.digraph.specs.Edges.{graph_of}
-use Rattle.digraph.proofs.Rows.{graph_push}
-use Rattle.proto_links.specs.Imports.{imports_of}
+use Rattle.proto_links.proofs.Common.{◌∙◌, sym, ap, arith, inl, inr, graph_of, graph_push, imports_of}
 use Rattle.proto_links.proofs.Faulting.{graphing_more, importer_inside, imports_is, rows_all}
 use Rattle.proto_links.proofs.graph.import_graph.Goals as goal
 use Rattle.proto_links.proofs.graph.import_graph.Goals.{then-is_whole, else-is_whole}

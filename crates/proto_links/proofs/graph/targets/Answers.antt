@@ -1,6 +1,4 @@
-use Rattle.std.proofs.Common.{take_all, ◌∙◌, sym, arith, inl, inr}
-use Rattle.std.proofs.lemmas.Bool.{false≢true}
-use Rattle.digraph.proofs.Gathering.{joined_if}
+use Rattle.proto_links.proofs.Common.{take_all, ◌∙◌, sym, arith, inl, inr, false≢true, joined_if}
 use Rattle.proto_links.proofs.Faulting.{nothing_more, one_more, prefix_more, targeting_more}
 use Rattle.proto_links.proofs.graph.targets.Goals as goal
 use Rattle.proto_links.proofs.graph.targets.Goals.{in-Some+in_ok-push-in-Some+then-import+in_ok-push-in-Some-2, in-Some+in_ok-push-in-Some+else-import, in-None}

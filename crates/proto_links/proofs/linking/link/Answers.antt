@@ -1,5 +1,4 @@
-use Rattle.proto_links.proofs.Positions.{graph_within, rows_within}
-use Rattle.proto_links.proofs.Reaching.{none_bad, no_cycle, none_missing}
+use Rattle.proto_links.proofs.Positions.{graph_within, rows_within, none_bad, no_cycle, none_missing}
 use Rattle.proto_links.proofs.linking.link.Goals as goal
 use Rattle.proto_links.proofs.linking.link.Goals.{in-Some+else-graph, in_default}
 

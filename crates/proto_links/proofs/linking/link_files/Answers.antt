@@ -1,8 +1,6 @@
-use Rattle.std.proofs.Common.{arith}
-use Rattle.std.proofs.lemmas.List.{get_or_default}
+use Rattle.proto_links.proofs.Common.{arith, get_or_default}
 use Rattle.digraph.proofs.Renumbering.{renumbered_falls}
-use Rattle.proto_links.proofs.Reaching.{public_imports}
-use Rattle.proto_links.proofs.Positions.{rows_size, public_size, rows_fall, laid_out, linked_of}
+use Rattle.proto_links.proofs.Positions.{public_imports, rows_size, public_size, rows_fall, laid_out, linked_of}
 use Rattle.proto_links.proofs.linking.link_files.Goals as goal
 
 pub files_reached-requires : goal.files_reached-requires

@@ -1,9 +1,7 @@
-use Rattle.std.proofs.Common.{rules, nat_cmp}
-use Rattle.std.specs.Cmp.Lexicographic.{slice_cmp}
+use Rattle.proto_links.proofs.Common.{rules, nat_cmp, slice_cmp, name_of}
 use Rattle.std.proofs.lemmas.Cmp.{nat_list_cmp_total}
 use Rattle.std.proofs.lemmas.List.Sorted.{searchable_from_sorted}
 use Rattle.std.proofs.lemmas.Fn.{always_returns_same}
-use Rattle.proto_links.specs.Imports.{name_of}
 use Rattle.proto_links.proofs.NameRows.{found_name, no_name, sorted_names}
 use Rattle.proto_links.proofs.order.file_named.Goals as goal
 

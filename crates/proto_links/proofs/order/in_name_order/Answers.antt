@@ -1,8 +1,4 @@
-use Rattle.std.specs.Cmp.Lexicographic.{slice_cmp}
-use Rattle.std.proofs.Common.{◌≡◌, ◌-◌, Less, arith, nat_cmp}
-use Rattle.std.proofs.lemmas.List.{length-map}
-use Rattle.std.proofs.lemmas.Grind.{common_steps}
-use Rattle.proto_links.specs.Imports.{name_at}
+use Rattle.proto_links.proofs.Common.{slice_cmp, ◌≡◌, ◌-◌, Less, arith, nat_cmp, length-map, common_steps, name_at}
 use Rattle.proto_links.proofs.NameRows.{pair_names}
 use Rattle.proto_links.proofs.order.in_name_order.Goals as goal
 

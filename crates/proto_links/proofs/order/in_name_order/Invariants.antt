@@ -1,6 +1,4 @@
-use Rattle.std.proofs.Common.{◌≡◌, ◌+◌, ◌<◌, ℕ, Less, nat_cmp}
-use Rattle.std.specs.Cmp.Lexicographic.{slice_cmp}
-use Rattle.proto_links.specs.Imports.{name_at}
+use Rattle.proto_links.proofs.Common.{◌≡◌, ◌+◌, ◌<◌, ℕ, Less, nat_cmp, slice_cmp, name_at}
 use Rattle.proto_links.proofs.order.in_name_order.Given as goal
 
 abbrev pub invariant-loop-next : goal.invariant-loop-next

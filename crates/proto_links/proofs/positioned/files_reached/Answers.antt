@@ -1,6 +1,5 @@
-use Rattle.std.proofs.Common.{◌<◌, arith, length}
+use Rattle.proto_links.proofs.Common.{◌<◌, arith, length, leads_le}
 use Rattle.std.proofs.lemmas.Result.{IfOk-weaker}
-use Rattle.digraph.proofs.Ways.{leads_le}
 use Rattle.proto_links.proofs.positioned.files_reached.Goals as goal
 
 pub reach_lists-requires : goal.reach_lists-requires
@@ -10,7 +9,7 @@ pub with_nodes-requires : goal.with_nodes-requires
 with_nodes-requires c a k h inside =
     let reaches = rw c.deref.ensures.value at c.in_ok-reach.ensures.reaches in
     let row : a < length c.args.positioned.now.imports.items = omega (arith, c.in_ok-reach.ensures.size) in
-    omega (arith, leads_le _ k a c.requires.falls (((reaches a row).members k).0 inside))
+    omega (arith, leads_le _ (λ x. x) c.requires.falls k a (((reaches a row).members k).0 inside))
 
 pub returns : goal.returns
 returns c = IfOk-weaker c.with_nodes.result _ _ (λ reach named. record {

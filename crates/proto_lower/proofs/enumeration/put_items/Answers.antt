@@ -1,5 +1,4 @@
-use Rattle.std.proofs.Common.{arith}
-use Rattle.std.proofs.lemmas.Grind.{common_steps}
+use Rattle.proto_lower.proofs.Common.{arith, common_steps}
 use Rattle.proto_lower.proofs.enumeration.put_items.Goals as goal
 
 pub loop-item-preserved : goal.loop-item-preserved

@@ -1,9 +1,4 @@
-use Rattle.std.proofs.Common.{◌≡◌, ◌++◌, take, map}
-use Rattle.std.specs.Prelude.{flat_map}
-use Rattle.proto_tree.specs.Text.{joined}
-use Rattle.proto_options.specs.Statements.{enum_value, enum_reserved, ranges_in, names_in}
-use Rattle.proto_lower.specs.Enums.{value_desc}
-use Rattle.proto_lower.specs.Reserveds.{enum_range}
+use Rattle.proto_lower.proofs.Common.{◌≡◌, ◌++◌, take, map, flat_map, joined, enum_value, enum_reserved, ranges_in, names_in, value_desc, enum_range}
 use Rattle.proto_lower.proofs.enumeration.put_items.Given as goal
 
 abbrev pub invariant-loop-item : goal.invariant-loop-item

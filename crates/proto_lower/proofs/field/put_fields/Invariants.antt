@@ -1,5 +1,4 @@
-use Rattle.std.proofs.Common.{◌≡◌, ◌++◌, ◌+◌, ◌≤◌, drop}
-use Rattle.proto_lower.specs.Fields.{fields_from}
+use Rattle.proto_lower.proofs.Common.{◌≡◌, ◌++◌, ◌+◌, ◌≤◌, drop, fields_from}
 use Rattle.proto_lower.proofs.field.put_fields.Given as goal
 
 abbrev pub invariant-loop-item : goal.invariant-loop-item

@@ -1,7 +1,4 @@
-use Rattle.std.proofs.Common.{◌≡◌, ◌++◌, take, map}
-use Rattle.std.specs.Prelude.{flat_map}
-use Rattle.proto_options.specs.Statements.{oneof_field}
-use Rattle.proto_lower.specs.Fields.{member_at}
+use Rattle.proto_lower.proofs.Common.{◌≡◌, ◌++◌, take, map, flat_map, oneof_field, member_at}
 use Rattle.proto_lower.proofs.field.put_members.Given as goal
 
 abbrev pub invariant-loop-item : goal.invariant-loop-item

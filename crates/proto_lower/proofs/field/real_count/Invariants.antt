@@ -1,5 +1,4 @@
-use Rattle.std.proofs.Common.{◌≡◌, ◌≤◌, take}
-use Rattle.proto_lower.specs.Fields.{real_count}
+use Rattle.proto_lower.proofs.Common.{◌≡◌, ◌≤◌, take, real_count}
 use Rattle.proto_lower.proofs.field.real_count.Given as goal
 
 abbrev pub invariant-loop-item : goal.invariant-loop-item

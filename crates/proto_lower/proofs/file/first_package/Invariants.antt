@@ -1,6 +1,4 @@
-use Rattle.std.proofs.Common.{◌≡◌, drop}
-use Rattle.std.specs.Prelude.{flat_map, slice_get}
-use Rattle.proto_options.specs.Statements.{file_package}
+use Rattle.proto_lower.proofs.Common.{◌≡◌, drop, flat_map, slice_get, file_package}
 use Rattle.proto_lower.proofs.file.first_package.Given as goal
 
 abbrev pub invariant-loop-statement : goal.invariant-loop-statement

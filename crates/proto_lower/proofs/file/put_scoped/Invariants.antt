@@ -1,9 +1,5 @@
-use Rattle.std.proofs.Common.{◌≡◌, ◌++◌, take, map}
-use Rattle.std.specs.Prelude.{flat_map}
-use Rattle.proto_options.specs.Statements.{file_message, file_enum, file_service}
-use Rattle.proto_lower.specs.Enums.{lowered_enum}
+use Rattle.proto_lower.proofs.Common.{◌≡◌, ◌++◌, take, map, flat_map, file_message, file_enum, file_service, lowered_enum, lowered_message}
 use Rattle.proto_lower.specs.Files.{import_of}
-use Rattle.proto_lower.specs.Messages.{lowered_message}
 use Rattle.proto_lower.specs.Services.{lowered_service}
 use Rattle.proto_lower.proofs.file.put_scoped.Given as goal
 

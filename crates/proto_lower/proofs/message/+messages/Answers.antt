@@ -1,5 +1,4 @@
-use Rattle.std.proofs.Common.{sym, refl, arith}
-use Rattle.proto_lower.specs.Messages.{nested_of}
+use Rattle.proto_lower.proofs.Common.{sym, refl, arith, nested_of}
 use Rattle.proto_lower.proofs.Nested.{nested_message, one_more, none_more}
 use Rattle.proto_lower.proofs.message.+messages.Goals as goal
 use Rattle.proto_lower.proofs.message.+messages.Goals.{put_nested-in-Map+in_ok-put_entry-in-Map, put_nested-in-Message+in_ok-put_message-in-Message, put_nested-in-Field, put_nested-in-Oneof, put_nested-in-Option, put_nested-in-Enum, put_nested-in-Reserved, put_nested-in-Empty}

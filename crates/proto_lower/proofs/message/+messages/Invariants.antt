@@ -1,6 +1,4 @@
-use Rattle.std.proofs.Common.{◌≡◌, ◌++◌, take}
-use Rattle.std.specs.Prelude.{flat_map}
-use Rattle.proto_lower.specs.Messages.{nested_of}
+use Rattle.proto_lower.proofs.Common.{◌≡◌, ◌++◌, take, flat_map, nested_of}
 use Rattle.proto_lower.proofs.message.+messages.Given as goal
 
 abbrev pub invariant-put_nested-loop-item : goal.invariant-put_nested-loop-item

@@ -1,7 +1,4 @@
-use Rattle.std.proofs.Common.{◌≡◌, ◌++◌, take, map}
-use Rattle.std.specs.Prelude.{flat_map}
-use Rattle.proto_options.specs.Statements.{message_enum}
-use Rattle.proto_lower.specs.Enums.{lowered_enum}
+use Rattle.proto_lower.proofs.Common.{◌≡◌, ◌++◌, take, map, flat_map, message_enum, lowered_enum}
 use Rattle.proto_lower.proofs.message.put_enums.Given as goal
 
 abbrev pub invariant-loop-item : goal.invariant-loop-item

@@ -1,7 +1,4 @@
-use Rattle.std.proofs.Common.{◌≡◌, ◌-◌, ◌∷◌, suc, sym, ◌∙◌, arith, false, true}
-use Rattle.std.specs.Prelude.{string_bytes}
-use Rattle.std.specs.BTreeSet.{contains_text}
-use Rattle.std.proofs.lemmas.Grind.{common_steps}
+use Rattle.proto_lower.proofs.Common.{◌≡◌, ◌-◌, ◌∷◌, suc, sym, ◌∙◌, arith, false, true, string_bytes, contains_text, common_steps}
 use Rattle.proto_lower.proofs.Free.{free_stops, free_goes}
 use Rattle.proto_lower.proofs.names.first_free.Goals as goal
 

@@ -1,7 +1,4 @@
-use Rattle.std.proofs.Common.{◌≡◌, ◌+◌, ℕ}
-use Rattle.std.specs.Prelude.{string_bytes}
-use Rattle.std.specs.BTreeSet.{contains_text}
-use Rattle.proto_lower.specs.Names.{first_free}
+use Rattle.proto_lower.proofs.Common.{◌≡◌, ◌+◌, ℕ, string_bytes, contains_text, first_free}
 use Rattle.proto_lower.proofs.names.first_free.Given as goal
 
 abbrev pub invariant-loop : goal.invariant-loop

@@ -1,9 +1,5 @@
-use Rattle.std.proofs.Common.{◌∙◌, ap, sym}
-use Rattle.std.specs.Prelude.{string_bytes}
-use Rattle.std.proofs.lemmas.List.{length-map}
+use Rattle.proto_lower.proofs.Common.{◌∙◌, ap, sym, string_bytes, length-map, bytes_eq, with_underscore}
 use Rattle.std.specs.Set.{is_member}
-use Rattle.std.specs.Str.{bytes_eq}
-use Rattle.proto_lower.specs.Names.{with_underscore}
 use Rattle.proto_base.proofs.Among.{if_ok}
 use Rattle.proto_lower.proofs.Free.{free_is_free, found_by_set}
 use Rattle.proto_lower.proofs.names.oneof_name.Goals as goal

@@ -1,6 +1,5 @@
-use Rattle.std.proofs.Common.{arith, inl, inr, ◌∙◌}
+use Rattle.proto_lower.proofs.Common.{arith, inl, inr, ◌∙◌, nat_tests}
 use Rattle.proto_lower.proofs.Raised.{so_far_start, so_far_dropped, so_far_pushed, so_far_end, raised_as}
-use Rattle.std.proofs.lemmas.Bool.Decides.{nat_tests}
 use Rattle.proto_lower.proofs.names.push_raised.Goals as goal
 use Rattle.proto_lower.proofs.names.push_raised.Goals.{then-before-eq95, else-before-eq95}
 

@@ -1,6 +1,4 @@
-use Rattle.std.proofs.Common.{◌++◌}
-use Rattle.std.specs.Prelude.{string_bytes}
-use Rattle.proto_lower.specs.Names.{raised}
+use Rattle.proto_lower.proofs.Common.{◌++◌, string_bytes, raised}
 use Rattle.proto_lower.proofs.Raised.{IsSoFar}
 use Rattle.proto_lower.proofs.names.push_raised.Given as goal
 

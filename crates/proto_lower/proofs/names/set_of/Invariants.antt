@@ -1,5 +1,4 @@
-use Rattle.std.proofs.Common.{map, take}
-use Rattle.proto_lower.specs.Taken.{HoldsTaken}
+use Rattle.proto_lower.proofs.Common.{map, take, HoldsTaken}
 use Rattle.proto_lower.proofs.names.set_of.Given as goal
 
 abbrev pub invariant-loop-name : goal.invariant-loop-name

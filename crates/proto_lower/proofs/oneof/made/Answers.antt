@@ -1,7 +1,4 @@
-use Rattle.std.proofs.Common.{◌∙◌, ℕ, List, ap}
-use Rattle.std.specs.Prelude.{string_bytes}
-use Rattle.proto_desc.specs.declared.oneof.OneofDesc.{OneofDesc}
-use Rattle.proto_lower.specs.Names.{with_underscore}
+use Rattle.proto_lower.proofs.Common.{◌∙◌, ℕ, List, ap, string_bytes, OneofDesc, with_underscore}
 use Rattle.proto_lower.proofs.Free.{found_by_set}
 use Rattle.proto_lower.proofs.oneof.made.Goals as goal
 

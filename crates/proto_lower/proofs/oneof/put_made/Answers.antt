@@ -1,6 +1,4 @@
-use Rattle.std.proofs.Common.{sym, ◌∙◌, arith}
-use Rattle.std.proofs.lemmas.Grind.{common_steps}
-use Rattle.proto_lower.specs.Oneofs.{names_of_fields}
+use Rattle.proto_lower.proofs.Common.{sym, ◌∙◌, arith, common_steps, names_of_fields}
 use Rattle.proto_lower.proofs.NoneMade.{none_made}
 use Rattle.proto_lower.proofs.oneof.put_made.Goals as goal
 

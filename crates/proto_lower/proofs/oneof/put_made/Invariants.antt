@@ -1,6 +1,4 @@
-use Rattle.std.proofs.Common.{◌≡◌, ◌++◌, drop}
-use Rattle.proto_lower.specs.Taken.{HoldsTaken}
-use Rattle.proto_lower.specs.Oneofs.{names_of_fields, names_of_oneofs, with_made}
+use Rattle.proto_lower.proofs.Common.{◌≡◌, ◌++◌, drop, HoldsTaken, names_of_fields, names_of_oneofs, with_made}
 use Rattle.proto_lower.proofs.oneof.put_made.Given as goal
 
 abbrev pub invariant-loop-field : goal.invariant-loop-field

@@ -1,5 +1,4 @@
-use Rattle.std.proofs.Common.{◌≡◌, ◌++◌, take}
-use Rattle.proto_lower.specs.Oneofs.{real_oneofs}
+use Rattle.proto_lower.proofs.Common.{◌≡◌, ◌++◌, take, real_oneofs}
 use Rattle.proto_lower.proofs.oneof.put_real.Given as goal
 
 abbrev pub invariant-loop-item : goal.invariant-loop-item

@@ -1,6 +1,4 @@
-use Rattle.std.proofs.Common.{◌++◌, take}
-use Rattle.proto_lower.specs.Taken.{HoldsTaken}
-use Rattle.proto_lower.specs.Oneofs.{names_of_fields, names_of_oneofs}
+use Rattle.proto_lower.proofs.Common.{◌++◌, take, HoldsTaken, names_of_fields, names_of_oneofs}
 use Rattle.proto_lower.proofs.oneof.taken_names.Given as goal
 
 abbrev pub invariant-loop-field : goal.invariant-loop-field

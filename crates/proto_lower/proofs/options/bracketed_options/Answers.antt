@@ -1,7 +1,5 @@
-use Rattle.std.proofs.Common.{◌∙◌, ap, arith, sym}
-use Rattle.std.proofs.lemmas.Grind.{common_steps}
+use Rattle.proto_lower.proofs.Common.{◌∙◌, ap, arith, sym, common_steps, options_of}
 use Rattle.proto_options.specs.Options.{bracketed}
-use Rattle.proto_lower.specs.Options.{options_of}
 use Rattle.proto_lower.proofs.OptionRows.{no_options, rows_give}
 use Rattle.proto_lower.proofs.options.bracketed_options.Goals as goal
 

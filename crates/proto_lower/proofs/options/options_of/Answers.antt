@@ -1,7 +1,4 @@
-use Rattle.std.proofs.Common.{◌∙◌, ap, arith, sym}
-use Rattle.std.specs.Prelude.{flat_map}
-use Rattle.std.proofs.lemmas.Grind.{common_steps}
-use Rattle.proto_lower.specs.Options.{options_of}
+use Rattle.proto_lower.proofs.Common.{◌∙◌, ap, arith, sym, flat_map, common_steps, options_of}
 use Rattle.proto_lower.proofs.OptionRows.{no_options, rows_give}
 use Rattle.proto_lower.proofs.options.options_of.Goals as goal
 

@@ -1,5 +1,4 @@
-use Rattle.std.proofs.Common.{◌≡◌, take}
-use Rattle.std.specs.Prelude.{flat_map}
+use Rattle.std.proofs.Common.{◌≡◌, take, flat_map}
 use Rattle.proto_lower.proofs.OptionRows.{option_by_row}
 use Rattle.proto_lower.proofs.options.options_of.Given as goal
 

@@ -1,5 +1,4 @@
-use Rattle.std.proofs.Common.{◌≡◌, [], take}
-use Rattle.std.specs.Prelude.{flat_map}
+use Rattle.std.proofs.Common.{◌≡◌, [], take, flat_map}
 use Rattle.proto_lower.proofs.options.setting_count.Given as goal
 
 abbrev pub invariant-loop-item : goal.invariant-loop-item

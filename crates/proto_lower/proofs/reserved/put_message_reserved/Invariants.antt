@@ -1,8 +1,4 @@
-use Rattle.std.proofs.Common.{◌≡◌, ◌++◌, take, map}
-use Rattle.std.specs.Prelude.{flat_map}
-use Rattle.proto_tree.specs.Text.{joined}
-use Rattle.proto_options.specs.Statements.{message_reserved, ranges_in, names_in}
-use Rattle.proto_lower.specs.Reserveds.{message_range}
+use Rattle.proto_lower.proofs.Common.{◌≡◌, ◌++◌, take, map, flat_map, joined, message_reserved, ranges_in, names_in, message_range}
 use Rattle.proto_lower.proofs.reserved.put_message_reserved.Given as goal
 
 abbrev pub invariant-loop-item : goal.invariant-loop-item

@@ -1,7 +1,4 @@
-use Rattle.std.proofs.Common.{◌≡◌, ◌++◌, map}
-use Rattle.proto_options.specs.Statements.{ranges_in}
-use Rattle.proto_tree.specs.Items.{items_left}
-use Rattle.proto_lower.specs.Reserveds.{message_range}
+use Rattle.proto_lower.proofs.Common.{◌≡◌, ◌++◌, map, ranges_in, items_left, message_range}
 use Rattle.proto_lower.proofs.reserved.put_ranges.Given as goal
 
 abbrev pub invariant-loop-range : goal.invariant-loop-range

@@ -1,6 +1,4 @@
-use Rattle.std.proofs.Common.{◌≡◌, take, map}
-use Rattle.std.specs.Prelude.{flat_map}
-use Rattle.proto_options.specs.Statements.{service_rpc}
+use Rattle.proto_lower.proofs.Common.{◌≡◌, take, map, flat_map, service_rpc}
 use Rattle.proto_lower.specs.Services.{method_desc}
 use Rattle.proto_lower.proofs.service.methods.Given as goal
 

@@ -1,7 +1,5 @@
-use Rattle.std.proofs.Common.{◌≡◌, ◌++◌, map, take, flat_map}
-use Rattle.proto_desc.specs.DeclaredNames.{declared_by_message}
+use Rattle.proto_names.proofs.Common.{◌≡◌, ◌++◌, map, take, flat_map, declared_by_message, declared_occurrence}
 use Rattle.proto_desc.proofs.Declared.{declared_before, scope_in}
-use Rattle.proto_names.specs.Occurrences.{declared_occurrence}
 use Rattle.proto_names.proofs.collect.+put_message.Given as goal
 
 abbrev pub invariant-loop-nested : goal.invariant-loop-nested

@@ -1,5 +1,4 @@
-use Rattle.std.proofs.Common.{◌≡◌, ◌≤◌, length, take}
-use Rattle.proto_names.specs.Occurrences.{occurrences_from}
+use Rattle.proto_names.proofs.Common.{◌≡◌, ◌≤◌, length, take, occurrences_from}
 use Rattle.proto_names.proofs.collect.collect_files.Given as goal
 
 abbrev pub invariant-loop-k : goal.invariant-loop-k

@@ -1,5 +1,4 @@
-use Rattle.std.proofs.Common.{◌≡◌, ◌++◌, map, take, flat_map}
-use Rattle.proto_names.specs.Occurrences.{declared_occurrence}
+use Rattle.proto_names.proofs.Common.{◌≡◌, ◌++◌, map, take, flat_map, declared_occurrence}
 use Rattle.proto_names.proofs.collect.put_each.Given as goal
 
 abbrev pub invariant-loop-element : goal.invariant-loop-element

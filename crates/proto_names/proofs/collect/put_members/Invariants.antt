@@ -1,5 +1,4 @@
-use Rattle.std.proofs.Common.{◌≡◌, ◌++◌, map, take}
-use Rattle.proto_names.specs.Occurrences.{declared_occurrence}
+use Rattle.proto_names.proofs.Common.{◌≡◌, ◌++◌, map, take, declared_occurrence}
 use Rattle.proto_names.proofs.collect.put_members.Given as goal
 
 abbrev pub invariant-loop-member : goal.invariant-loop-member

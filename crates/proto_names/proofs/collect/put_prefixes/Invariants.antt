@@ -1,8 +1,6 @@
-use Rattle.std.proofs.Common.{◌≡◌, ◌++◌, length, map}
+use Rattle.proto_names.proofs.Common.{◌≡◌, ◌++◌, length, map, package_occurrence, prefixes}
 use denote.Shadow.{shadow}
 use denote.Text.{Utf8}
-use Rattle.proto_names.specs.Occurrences.{package_occurrence}
-use Rattle.proto_names.specs.Scopes.{prefixes}
 use Rattle.proto_names.proofs.collect.put_prefixes.Given as goal
 
 abbrev pub invariant-loop-shorter : goal.invariant-loop-shorter

@@ -1,5 +1,4 @@
-use Rattle.std.proofs.Common.{◌∙◌, ap, nat_eq, arith}
-use Rattle.std.specs.Cmp.Lexicographic.{same_text, other_text, pointwise}
+use Rattle.proto_names.proofs.Common.{◌∙◌, ap, nat_eq, arith, same_text, other_text, pointwise}
 use Rattle.proto_names.proofs.Ordered.{parts_equal, scoped_some}
 use Rattle.proto_names.proofs.full_name.is_name_in.Goals as goal
 

@@ -1,8 +1,5 @@
-use Rattle.std.proofs.lemmas.Grind.{common_steps}
-use Rattle.std.proofs.Common.{ℕ, List, [], ◌∷◌, arith, IsUtf8}
+use Rattle.proto_names.proofs.Common.{common_steps, ℕ, List, [], ◌∷◌, arith, IsUtf8, scoped, OnOk-all}
 use Rattle.std.proofs.lemmas.Str.{IsUtf8-append, IsUtf8-from_ascii}
-use Rattle.proto_desc.specs.DeclaredNames.{scoped}
-use Rattle.share_work.proofs.PieceRows.{OnOk-all}
 use Rattle.proto_names.proofs.full_name.push_name.Goals as goal
 
 scoped_text : (scope name : List ℕ) → IsUtf8 scope → IsUtf8 name → IsUtf8 (scoped scope name)

@@ -1,12 +1,4 @@
-use Rattle.std.proofs.Common.{ap, ℕ, ◌<◌, length, rules}
-use Rattle.std.specs.Cmp.Lexicographic.{slice_cmp}
-use Rattle.std.specs.Ordering.{nat_cmp, is_lt, ordering_then}
-use Rattle.std.proofs.lemmas.List.Sorted.{IsPartitionPoint-from_clause}
-use Rattle.proto_desc.specs.DeclaredNames.{scoped}
-use Rattle.proto_names.specs.Keys.{at_key, found_by, hash_in}
-use Rattle.proto_names.specs.Index.{name_of}
-use Rattle.proto_names.specs.Occurrences.{Occurrence}
-use Rattle.proto_names.specs.Order.{name_cmp}
+use Rattle.proto_names.proofs.Common.{ap, ℕ, ◌<◌, length, rules, slice_cmp, nat_cmp, is_lt, ordering_then, IsPartitionPoint-from_clause, scoped, at_key, found_by, hash_in, name_of, Occurrence, name_cmp}
 use Rattle.proto_names.proofs.Searching.{less_point, name_order, parted_keys, parted_less, point_found}
 use Rattle.proto_names.proofs.halving.count_before.Goals as goal
 

@@ -1,10 +1,4 @@
-use Rattle.std.proofs.Common.{refl, ℕ, rules, nat_cmp, is_eq}
-use Rattle.std.specs.Cmp.Lexicographic.{slice_cmp}
-use Rattle.std.proofs.lemmas.List.Sorted.{IsPartitionPoint-from_clause}
-use Rattle.proto_desc.specs.DeclaredNames.{scoped}
-use Rattle.proto_names.specs.Keys.{at_key, found_by}
-use Rattle.proto_names.specs.Index.{name_of}
-use Rattle.proto_names.specs.Occurrences.{Occurrence}
+use Rattle.proto_names.proofs.Common.{refl, ℕ, rules, nat_cmp, is_eq, slice_cmp, IsPartitionPoint-from_clause, scoped, at_key, found_by, name_of, Occurrence}
 use Rattle.proto_names.proofs.Searching.{equal_point, parted_equal, parted_keys, point_found}
 use Rattle.proto_names.proofs.halving.count_named.Goals as goal
 

@@ -1,6 +1,4 @@
-use Rattle.std.proofs.Common.{◌∙◌, arith, sym}
-use Rattle.std.proofs.lemmas.Bool.{false≢true}
-use Rattle.proto_desc.specs.DeclaredNames.{scoped}
+use Rattle.proto_names.proofs.Common.{◌∙◌, arith, sym, false≢true, scoped}
 use Rattle.proto_names.proofs.Searching.{nowhere_is}
 use Rattle.proto_names.proofs.halving.start_by_halving.Goals as goal
 use Rattle.proto_names.proofs.halving.start_by_halving.Goals.{else-start-len-via-then-start-len+else-has_name, else-start-len-via-else-start-len}

@@ -1,5 +1,4 @@
-use Rattle.std.proofs.lemmas.Grind.{common_steps}
-use Rattle.std.proofs.Common.{arith}
+use Rattle.proto_names.proofs.Common.{common_steps, arith}
 use Rattle.proto_names.proofs.Starting.{hash_below, hash_end}
 use Rattle.proto_names.proofs.hashing.hash_before.Goals as goal
 

@@ -1,5 +1,4 @@
-use Rattle.std.proofs.Common.{◌≡◌, ◌≤◌, ◌++◌, List, ℕ, length, take}
-use Rattle.proto_names.specs.Hashes.{hash_of}
+use Rattle.proto_names.proofs.Common.{◌≡◌, ◌≤◌, ◌++◌, List, ℕ, length, take, hash_of}
 use Rattle.proto_names.proofs.hashing.hash_before.Given as goal
 
 abbrev pub invariant-loop-end : goal.invariant-loop-end

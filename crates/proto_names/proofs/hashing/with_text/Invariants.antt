@@ -1,5 +1,4 @@
-use Rattle.std.proofs.Common.{◌≡◌, take, fold}
-use Rattle.proto_names.specs.Hashes.{hash_step}
+use Rattle.proto_names.proofs.Common.{◌≡◌, take, fold, hash_step}
 use Rattle.proto_names.proofs.hashing.with_text.Given as goal
 
 abbrev pub invariant-loop-byte : goal.invariant-loop-byte

@@ -1,8 +1,5 @@
-use Rattle.std.proofs.Common.{arith, inl, inr}
-use Rattle.std.proofs.lemmas.List.{map_more, take_all}
-use Rattle.std.proofs.lemmas.List.Elements.{Contains-append_left, Contains-push, Contains-push_cases}
-use Rattle.std.proofs.lemmas.Option.{none-some, same_Some}
-use Rattle.proto_names.specs.Shares.{twice_of}
+use Rattle.proto_names.proofs.Common.{arith, inl, inr, map_more, Contains-append_left, Contains-push, Contains-push_cases, none-some, same_Some, twice_of}
+use Rattle.std.proofs.lemmas.List.{take_all}
 use Rattle.proto_names.proofs.Once.{first_kept, first_listed, first_more}
 use Rattle.proto_names.proofs.index.first_of.Goals as goal
 use Rattle.proto_names.proofs.index.first_of.Goals.{in-Some, in_default}

@@ -1,5 +1,4 @@
-use Rattle.std.proofs.Common.{map, take}
-use Rattle.proto_names.specs.Shares.{twice_of}
+use Rattle.proto_names.proofs.Common.{map, take, twice_of}
 use Rattle.proto_names.proofs.Once.{IsFirstListed}
 use Rattle.proto_names.proofs.index.first_of.Given as goal
 

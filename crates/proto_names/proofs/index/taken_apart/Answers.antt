@@ -1,6 +1,4 @@
-use Rattle.std.proofs.Common.{arith, nat_cmp, string_bytes}
-use Rattle.std.specs.Cmp.Lexicographic.{slice_cmp}
-use Rattle.std.proofs.lemmas.List.Sorted.{IsPermutation-map}
+use Rattle.proto_names.proofs.Common.{arith, nat_cmp, string_bytes, slice_cmp, IsPermutation-map}
 use Rattle.proto_names.proofs.Searching.{sorted_map}
 use Rattle.proto_names.proofs.Tabled.{all_taken}
 use Rattle.proto_names.proofs.index.taken_apart.Goals as goal

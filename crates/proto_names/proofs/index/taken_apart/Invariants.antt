@@ -1,5 +1,4 @@
-use Rattle.std.proofs.Common.{◌≡◌, ◌++◌, map, flat_map, string_bytes}
-use Rattle.proto_names.specs.Shares.{services_in, table_of}
+use Rattle.proto_names.proofs.Common.{◌≡◌, ◌++◌, map, flat_map, string_bytes, services_in, table_of}
 use Rattle.proto_names.proofs.index.taken_apart.Given as goal
 
 abbrev pub invariant-loop-share : goal.invariant-loop-share

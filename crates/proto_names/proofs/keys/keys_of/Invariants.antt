@@ -1,6 +1,4 @@
-use Rattle.std.proofs.Common.{take}
-use Rattle.proto_names.specs.Keys.{AreKeysOf}
-use Rattle.proto_names.specs.Shares.{all_of, share_of}
+use Rattle.proto_names.proofs.Common.{take, AreKeysOf, all_of, share_of}
 use Rattle.proto_names.proofs.keys.keys_of.Given as goal
 
 abbrev pub invariant-loop-part : goal.invariant-loop-part

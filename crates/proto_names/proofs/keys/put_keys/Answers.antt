@@ -1,9 +1,4 @@
-use Rattle.std.proofs.Common.{◌≡◌, ◌∙◌, ◌<◌, [], ap, ap₂, append_assoc, append-nil, arith, length, ◌==◌}
-use Rattle.std.proofs.lemmas.List.{get_or_default}
-use Rattle.std.proofs.lemmas.List.Elements.{filter_more}
-use Rattle.proto_names.specs.Keys.{IsKeyAmong, at_key, part_at}
-use Rattle.proto_names.specs.Runs.{at, blank}
-use Rattle.proto_names.specs.Shares.{share_at}
+use Rattle.proto_names.proofs.Common.{◌≡◌, ◌∙◌, ◌<◌, [], ap, ap₂, append_assoc, append-nil, arith, length, ◌==◌, get_or_default, filter_more, IsKeyAmong, at_key, part_at, at, blank, share_at}
 use Rattle.proto_names.proofs.Searching.{keys_more}
 use Rattle.proto_names.proofs.keys.put_keys.Goals as goal
 use Rattle.proto_names.proofs.keys.put_keys.Goals.{then-has+in_ok-push, else-has}

@@ -1,6 +1,4 @@
-use Rattle.std.proofs.Common.{◌++◌, take}
-use Rattle.proto_names.specs.Keys.{AreKeysOf, part_at}
-use Rattle.proto_names.specs.Shares.{all_of, share_of}
+use Rattle.proto_names.proofs.Common.{◌++◌, take, AreKeysOf, part_at, all_of, share_of}
 use Rattle.proto_names.proofs.keys.put_keys.Given as goal
 
 abbrev pub invariant-loop-index : goal.invariant-loop-index

@@ -1,9 +1,6 @@
-use Rattle.std.proofs.Common.{◌≡◌, is_lt, rules}
+use Rattle.proto_names.proofs.Common.{◌≡◌, is_lt, rules, ranks_by, IsPermutation-trans, key_cmp}
 use Rattle.std.proofs.lemmas.Fn.{always_returns_same}
-use Rattle.std.proofs.lemmas.List.MinMax.{ranks_by}
-use Rattle.std.proofs.lemmas.List.Sorted.{IsPermutation-trans}
 use Rattle.std.proofs.lemmas.Result.{on_ok_weaker}
-use Rattle.proto_names.specs.Keys.{key_cmp}
 use Rattle.proto_names.proofs.Searching.{key_total}
 use Rattle.proto_names.proofs.keys.sort_keys.Goals as goal
 

@@ -1,6 +1,4 @@
-use Rattle.std.proofs.Common.{ℕ, ◌<◌}
-use Rattle.proto_names.specs.Occurrences.{IsPackage}
-use Rattle.proto_names.specs.Runs.{at}
+use Rattle.proto_names.proofs.Common.{ℕ, ◌<◌, IsPackage, at}
 use Rattle.proto_names.proofs.packages.are_packages.Given as goal
 
 abbrev pub invariant-loop-position : goal.invariant-loop-position

@@ -1,7 +1,4 @@
-use Rattle.std.proofs.Common.{◌≡◌, ◌⊎◌, ℕ, ◌<◌, ◌↔◌}
-use Rattle.bit_matrix.specs.Bits.{has}
-use Rattle.bit_matrix.specs.Changes.{Has, IsAsLarge, columns_of}
-use Rattle.proto_names.specs.Runs.{at}
+use Rattle.proto_names.proofs.Common.{◌≡◌, ◌⊎◌, ℕ, ◌<◌, ◌↔◌, has, Has, IsAsLarge, columns_of, at}
 use Rattle.proto_names.proofs.packages.insert_files.Given as goal
 
 -- the files of those before the position are set

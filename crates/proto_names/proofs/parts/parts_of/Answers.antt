@@ -1,5 +1,4 @@
-use Rattle.std.proofs.Common.{◌≡◌, ◌∙◌, ◌+◌, ◌-◌, ◌/◌, ap, arith, drop, length, sym, take, take_all, div-le_self, length-take-le}
-use Rattle.std.proofs.lemmas.Grind.{common_steps}
+use Rattle.proto_names.proofs.Common.{◌≡◌, ◌∙◌, ◌+◌, ◌-◌, ◌/◌, ap, arith, drop, length, sym, take, take_all, div-le_self, length-take-le, common_steps}
 use Rattle.proto_names.proofs.Built.{files_more, placed_more}
 use Rattle.proto_names.proofs.parts.parts_of.Goals as goal
 

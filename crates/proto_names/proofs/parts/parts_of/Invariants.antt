@@ -1,5 +1,4 @@
-use Rattle.std.proofs.Common.{◌≡◌, ◌≤◌, length, take}
-use Rattle.proto_names.specs.Collected.{ArePlaced, files_in}
+use Rattle.proto_names.proofs.Common.{◌≡◌, ◌≤◌, length, take, ArePlaced, files_in}
 use Rattle.proto_names.proofs.parts.parts_of.Given as goal
 
 abbrev pub invariant-loop-k : goal.invariant-loop-k

@@ -1,7 +1,4 @@
-use Rattle.std.proofs.lemmas.Grind.{flat_map-append}
-use Rattle.std.proofs.Common.{◌≡◌, ◌++◌, ap, arith, append_assoc, append-nil, length, length-append, None, Some}
-use Rattle.std.proofs.lemmas.List.{map_push}
-use Rattle.proto_names.specs.Shares.{all_of}
+use Rattle.proto_names.proofs.Common.{flat_map-append, ◌≡◌, ◌++◌, ap, arith, append_assoc, append-nil, length, length-append, None, Some, map_push, all_of}
 use Rattle.proto_names.proofs.Built.{all_next, collected_next, few_next}
 use Rattle.proto_names.proofs.parts.within.Goals as goal
 

@@ -1,7 +1,4 @@
-use Rattle.std.proofs.Common.{◌≡◌, ◌≤◌, ◌++◌, length, map, take, Some}
-use Rattle.proto_names.specs.Collected.{files_in}
-use Rattle.proto_names.specs.Occurrences.{occurrences_from}
-use Rattle.proto_names.specs.Shares.{all_of}
+use Rattle.proto_names.proofs.Common.{◌≡◌, ◌≤◌, ◌++◌, length, map, take, Some, files_in, occurrences_from, all_of}
 use Rattle.proto_names.proofs.parts.within.Given as goal
 
 abbrev pub invariant-loop-out : goal.invariant-loop-out

@@ -1,6 +1,4 @@
-use Rattle.std.proofs.Common.{◌≡◌, ◌<◌, length, take, inl, refl, arith, lit<}
-use Rattle.std.proofs.lemmas.Grind.{common_steps}
-use Rattle.std.proofs.lemmas.Str.Pattern.{rfind_char}
+use Rattle.proto_names.proofs.Common.{◌≡◌, ◌<◌, length, take, inl, refl, arith, lit<, common_steps, rfind_char}
 use Rattle.proto_names.proofs.Unique.{candidates_at_dot, candidate_before_dot, candidates_no_dot}
 use Rattle.proto_names.proofs.scope.parent.Goals as goal
 

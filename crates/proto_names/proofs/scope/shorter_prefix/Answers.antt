@@ -1,6 +1,4 @@
-use Rattle.std.proofs.Common.{◌≡◌, ◌<◌, length, take, arith, lit<}
-use Rattle.std.proofs.lemmas.Grind.{common_steps}
-use Rattle.std.proofs.lemmas.Str.Pattern.{rfind_char}
+use Rattle.proto_names.proofs.Common.{◌≡◌, ◌<◌, length, take, arith, lit<, common_steps, rfind_char}
 use Rattle.proto_names.proofs.Unique.{prefixes_at_dot, prefixes_plain}
 use Rattle.proto_names.proofs.scope.shorter_prefix.Goals as goal
 

@@ -1,6 +1,5 @@
-use Rattle.std.proofs.Common.{arith}
+use Rattle.proto_names.proofs.Common.{arith, all_of}
 use Rattle.std.proofs.lemmas.Result.{IfOk-weaker}
-use Rattle.proto_names.specs.Shares.{all_of}
 use Rattle.proto_names.proofs.Tabled.{shares_given}
 use Rattle.proto_names.proofs.shares.sort_in_threads.Goals as goal
 

@@ -1,6 +1,4 @@
-use Rattle.std.proofs.Common.{append-nil, arith, ◌≡◌, [], ◌∷◌}
-use Rattle.proto_names.specs.Occurrences.{occurrences}
-use Rattle.proto_names.specs.Shares.{all_of}
+use Rattle.proto_names.proofs.Common.{append-nil, arith, ◌≡◌, [], ◌∷◌, occurrences, all_of}
 use Rattle.proto_names.proofs.Built.{all_below}
 use Rattle.proto_names.proofs.Tabled.{alone_given}
 use Rattle.proto_names.proofs.shares.sorted_alone.Goals as goal

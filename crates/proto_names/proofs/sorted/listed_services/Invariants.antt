@@ -1,5 +1,4 @@
-use Rattle.std.proofs.Common.{◌≡◌, map, take, string_bytes}
-use Rattle.proto_names.specs.Index.{services_of}
+use Rattle.proto_names.proofs.Common.{◌≡◌, map, take, string_bytes, services_of}
 use Rattle.proto_names.proofs.sorted.listed_services.Given as goal
 
 abbrev pub invariant-loop-position : goal.invariant-loop-position

@@ -1,9 +1,4 @@
-use Rattle.std.proofs.Common.{arith, ◌<◌, ℕ, List, IsPermutation}
-use Rattle.bit_matrix.specs.Bits.{Bits}
-use Rattle.std.proofs.lemmas.List.Elements.{All-filter}
-use Rattle.std.proofs.lemmas.List.Sorted.{All-permutation, Contains-permutation, IsPermutation-sym, length_permutation}
-use Rattle.proto_names.specs.Occurrences.{Occurrence}
-use Rattle.proto_names.specs.ScopeHashes.{TellsScopes}
+use Rattle.proto_names.proofs.Common.{arith, ◌<◌, ℕ, List, IsPermutation, Bits, All-filter, All-permutation, Contains-permutation, IsPermutation-sym, length_permutation, Occurrence, TellsScopes}
 use Rattle.std.proofs.lemmas.List.Sums.{count_by-le-length, length-filter}
 use Rattle.proto_names.proofs.sorted.sort_share.Goals as goal
 

@@ -1,5 +1,4 @@
-use Rattle.std.proofs.lemmas.Grind.{common_steps}
-use Rattle.std.proofs.Common.{arith}
+use Rattle.proto_names.proofs.Common.{common_steps, arith}
 use Rattle.proto_names.proofs.Starting.{starts_more, starts_whole}
 use Rattle.proto_names.proofs.starts.starts_of.Goals as goal
 

@@ -1,5 +1,4 @@
-use Rattle.std.proofs.Common.{◌≡◌, ◌∙◌, ap, length, take, drop, arith, length-take-le}
-use Rattle.std.proofs.lemmas.Option.{IfSome_then}
+use Rattle.proto_names.proofs.Common.{◌≡◌, ◌∙◌, ap, length, take, drop, arith, length-take-le, IfSome_then}
 use Rattle.share_work.proofs.Sums.{none_in}
 use Rattle.proto_names.proofs.Ordered.{order_names}
 use Rattle.proto_names.proofs.Searching.{named_at, run_is, start_behind}

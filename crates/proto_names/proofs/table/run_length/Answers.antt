@@ -1,6 +1,4 @@
-use Rattle.std.proofs.Common.{◌≡◌, ◌≢◌, ◌∙◌, sym, ◌<◌, length, arith, true≢false}
-use Rattle.proto_desc.specs.DeclaredNames.{scoped}
-use Rattle.proto_names.specs.Runs.{at, blank}
+use Rattle.proto_names.proofs.Common.{◌≡◌, ◌≢◌, ◌∙◌, sym, ◌<◌, length, arith, true≢false, scoped, at, blank}
 use Rattle.proto_names.proofs.Searching.{one_point}
 use Rattle.proto_names.proofs.table.run_length.Goals as goal
 use Rattle.proto_names.proofs.table.run_length.Goals.{else-len-gt1-via-then-len-gt1+then-hash+else-has_name, else-len-gt1-via-then-len-gt1+else-hash, else-len-gt1-via-else-len-gt1}

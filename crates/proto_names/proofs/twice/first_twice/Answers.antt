@@ -1,7 +1,6 @@
-use Rattle.std.proofs.Common.{◌≡◌, ◌∙◌, sym, ◌+◌, ◌-◌, arith, inl, inr}
+use Rattle.proto_names.proofs.Common.{◌≡◌, ◌∙◌, sym, ◌+◌, ◌-◌, arith, inl, inr, at}
 use Rattle.std.proofs.lemmas.Bool.{true≢false}
 use Rattle.proto_names.proofs.Once.{first_kept, first_more, known_split, passed_all, repeats_twice}
-use Rattle.proto_names.specs.Runs.{at}
 use Rattle.proto_names.proofs.twice.first_twice.Goals as goal
 use Rattle.proto_names.proofs.twice.first_twice.Goals.{then-is_twice, else-is_twice}
 

@@ -1,5 +1,4 @@
-use Rattle.std.proofs.Common.{◌-◌, ◌<◌}
-use Rattle.proto_names.specs.Runs.{IsRun}
+use Rattle.proto_names.proofs.Common.{◌-◌, ◌<◌, IsRun}
 use Rattle.proto_names.proofs.Once.{Passed}
 use Rattle.proto_names.proofs.twice.first_twice.Given as goal
 

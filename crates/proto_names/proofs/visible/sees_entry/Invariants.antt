@@ -1,7 +1,4 @@
-use Rattle.std.proofs.Common.{ℕ, ◌<◌, IsTrue}
-use Rattle.proto_names.specs.Resolution.{SeenBy}
-use Rattle.proto_names.specs.Runs.{at}
-use Rattle.proto_names.specs.Steps.{fits}
+use Rattle.proto_names.proofs.Common.{ℕ, ◌<◌, IsTrue, SeenBy, at, fits}
 use Rattle.proto_names.proofs.visible.sees_entry.Given as goal
 
 -- none before the position is of such a kind in a file that is seen

@@ -1,4 +1,4 @@
-use Rattle.proto_syntax.specs.Trees.{file_tree}
+use Rattle.proto_syntax.proofs.Common.{file_tree}
 use Rattle.proto_syntax.proofs.Faults.{only_tree}
 use Rattle.proto_syntax.proofs.SameFiles.{same_file}
 use Rattle.proto_syntax.proofs.parser.at_most_one_file.Goals as goal

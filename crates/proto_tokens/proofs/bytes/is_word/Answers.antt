@@ -1,8 +1,6 @@
 -- The table is held against the definition at each of the 256 bytes, by computing.
-use Rattle.std.proofs.Common.{not, nat_eq, get_or, refl, arith}
-use Rattle.std.proofs.lemmas.Bool.{agree_below_at}
+use Rattle.proto_tokens.proofs.Common.{not, nat_eq, get_or, refl, arith, agree_below_at, is_word}
 use Rattle.proto_tokens.specs.declared.bytes.TheConstants.{WORD_BYTES}
-use Rattle.proto_tokens.specs.Bytes.{is_word}
 use Rattle.proto_tokens.proofs.bytes.is_word.Goals as goal
 
 pub returns : goal.returns

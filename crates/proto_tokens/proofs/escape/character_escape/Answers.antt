@@ -1,6 +1,5 @@
-use Rattle.std.proofs.Common.{sym, subst, arith}
+use Rattle.proto_tokens.proofs.Common.{sym, subst, arith, IsScalar}
 use Rattle.proto_tokens.proofs.Numbers.{not_digits, are_written}
-use Rattle.std.specs.Char.{IsScalar}
 use Rattle.proto_tokens.proofs.Escapes.{character_found, character_refused}
 use Rattle.proto_tokens.proofs.escape.character_escape.Goals as goal
 

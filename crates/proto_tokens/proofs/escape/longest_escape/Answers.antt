@@ -1,5 +1,4 @@
-use Rattle.std.proofs.lemmas.Grind.{common_steps}
-use Rattle.std.proofs.Common.{arith}
+use Rattle.proto_tokens.proofs.Common.{common_steps, arith}
 use Rattle.proto_tokens.proofs.Escapes.{simple_behind, none_behind}
 use Rattle.proto_tokens.proofs.escape.longest_escape.Goals as goal
 

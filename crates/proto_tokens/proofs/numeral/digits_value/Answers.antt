@@ -1,5 +1,4 @@
-use Rattle.std.proofs.lemmas.Grind.{common_steps}
-use Rattle.std.proofs.Common.{arith}
+use Rattle.proto_tokens.proofs.Common.{common_steps, arith}
 use Rattle.proto_tokens.proofs.Numbers.{too_big_from_step}
 use Rattle.proto_tokens.proofs.numeral.digits_value.Goals as goal
 

@@ -1,5 +1,4 @@
-use Rattle.std.proofs.Common.{◌≡◌, take}
-use Rattle.proto_tokens.specs.Numeral.{digits_value}
+use Rattle.proto_tokens.proofs.Common.{◌≡◌, take, digits_value}
 use Rattle.proto_tokens.proofs.numeral.digits_value.Given as goal
 
 abbrev pub invariant-loop-digit : goal.invariant-loop-digit

@@ -1,5 +1,4 @@
-use Rattle.std.proofs.lemmas.Grind.{common_steps}
-use Rattle.std.proofs.Common.{arith}
+use Rattle.proto_tokens.proofs.Common.{common_steps, arith}
 use Rattle.proto_tokens.proofs.Runs.{begins_from}
 use Rattle.proto_tokens.proofs.Pieces.{longest_blanks, found_identifier, fault_here}
 use Rattle.proto_tokens.proofs.piece.piece_at.Goals as goal

@@ -1,8 +1,6 @@
-use Rattle.std.proofs.lemmas.Grind.{common_steps}
-use Rattle.std.proofs.Common.{ℕ, ap, arith}
-use Rattle.proto_tokens.proofs.Strings.{after_quote_boundary, plain_string, found_string, not_text}
+use Rattle.proto_tokens.proofs.Common.{common_steps, ℕ, ap, arith, IsUtf8-string_bytes}
 use Rattle.std.specs.Global.{Vec}
-use Rattle.std.proofs.lemmas.Str.{IsUtf8-string_bytes}
+use Rattle.proto_tokens.proofs.Strings.{after_quote_boundary, plain_string, found_string, not_text}
 use Rattle.proto_tokens.proofs.quoted.string.Goals as goal
 
 pub range-requires-clause-start_boundary : goal.range-requires-clause-start_boundary

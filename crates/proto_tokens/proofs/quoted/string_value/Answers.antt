@@ -1,5 +1,4 @@
-use Rattle.std.proofs.lemmas.Grind.{common_steps}
-use Rattle.std.proofs.Common.{inl, inr, arith}
+use Rattle.proto_tokens.proofs.Common.{common_steps, inl, inr, arith}
 use Rattle.proto_tokens.proofs.Strings.{read_escape, read_plain, read_run, no_escape_here, unclosed_here}
 use Rattle.proto_tokens.proofs.quoted.string_value.Goals as goal
 

@@ -1,5 +1,4 @@
-use Rattle.std.proofs.lemmas.Grind.{common_steps}
-use Rattle.std.proofs.Common.{arith}
+use Rattle.proto_tokens.proofs.Common.{common_steps, arith}
 use Rattle.proto_tokens.proofs.CutLemmas.{gap_passed, token_pushed}
 use Rattle.proto_tokens.proofs.tokenizer.tokens_from.Goals as goal
 

@@ -1,6 +1,4 @@
-use Rattle.std.proofs.Common.{length, ◌-◌}
-use Rattle.std.specs.Prelude.{map}
-use Rattle.proto_tokens.specs.ProgramTokens.{spelled}
+use Rattle.proto_tokens.proofs.Common.{length, ◌-◌, map, spelled}
 use Rattle.proto_tokens.proofs.CutLemmas.{IsCutUpTo}
 use Rattle.proto_tokens.proofs.tokenizer.tokens_from.Given as goal
 

@@ -1,8 +1,4 @@
-use Rattle.std.proofs.Common.{arith, rules}
-use Rattle.proto_desc.specs.declared.message.MessageDesc.TheViews.{out-MessageDesc, out-roll-MessageDesc, roll-MessageDesc}
-use Rattle.proto_desc.proofs.Declared.{scope_in}
-use Rattle.proto_names.specs.SeenAlike.{IsSeen}
-use Rattle.proto_types.specs.References.{field_scope}
+use Rattle.proto_types.proofs.Common.{arith, rules, out-MessageDesc, out-roll-MessageDesc, roll-MessageDesc, scope_in, IsSeen, field_scope}
 use Rattle.proto_types.proofs.Trees.{references_out, remade_typed}
 use Rattle.proto_types.proofs.Walking.{filled_next, puts_both}
 use Rattle.proto_types.proofs.filling.+messages.Goals as goal

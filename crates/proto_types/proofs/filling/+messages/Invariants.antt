@@ -1,7 +1,4 @@
-use Rattle.std.proofs.Common.{take}
-use Rattle.proto_types.specs.References.{references_by_message}
-use Rattle.proto_types.specs.Steps.{AreFilled}
-use Rattle.proto_types.specs.Typed.{IsTypedMessage}
+use Rattle.proto_types.proofs.Common.{take, references_by_message, AreFilled, IsTypedMessage}
 use Rattle.proto_types.proofs.filling.+messages.Given as goal
 
 abbrev pub invariant-fill_messages-loop-position : goal.invariant-fill_messages-loop-position

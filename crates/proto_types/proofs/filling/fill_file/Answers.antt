@@ -1,5 +1,4 @@
-use Rattle.std.proofs.Common.{refl}
-use Rattle.proto_names.specs.SeenAlike.{IsSeen}
+use Rattle.proto_types.proofs.Common.{refl, IsSeen}
 use Rattle.proto_types.proofs.Trees.{messages_typed}
 use Rattle.proto_types.proofs.Walking.{puts_both}
 use Rattle.proto_types.proofs.filling.fill_file.Goals as goal

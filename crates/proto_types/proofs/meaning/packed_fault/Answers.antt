@@ -1,6 +1,4 @@
-use Rattle.std.proofs.Common.{arith, sym}
-use Rattle.proto_base.proofs.Sets.{each_more, each_all}
-use Rattle.proto_types.specs.Steps.{SetsPacked}
+use Rattle.proto_types.proofs.Common.{arith, sym, each_more, each_all, SetsPacked}
 use Rattle.proto_types.proofs.meaning.packed_fault.Goals as goal
 
 pub loop-option-preserved : goal.loop-option-preserved

@@ -1,6 +1,5 @@
 use Rattle.proto_base.specs.Least.{IsLeast}
-use Rattle.proto_base.proofs.Sets.{EachTo}
-use Rattle.proto_types.specs.Steps.{SetsPacked}
+use Rattle.proto_types.proofs.Common.{EachTo, SetsPacked}
 use Rattle.proto_types.proofs.meaning.packed_fault.Given as goal
 
 abbrev pub invariant-loop-option : goal.invariant-loop-option

@@ -1,6 +1,4 @@
-use Rattle.std.proofs.Common.{◌∙◌, [], sym, append-nil}
-use Rattle.proto_desc.specs.DeclaredNames.{file_scope}
-use Rattle.proto_names.specs.SeenAlike.{IsSeen}
+use Rattle.proto_types.proofs.Common.{◌∙◌, [], sym, append-nil, file_scope, IsSeen}
 use Rattle.proto_types.proofs.Trees.{typed_resolved}
 use Rattle.proto_types.proofs.typing.fill_types.Goals as goal
 

@@ -1,5 +1,4 @@
-use Rattle.proto_desc.specs.DeclaredNames.{file_scope}
-use Rattle.proto_names.specs.SeenAlike.{IsSeen}
+use Rattle.proto_types.proofs.Common.{file_scope, IsSeen}
 use Rattle.proto_types.proofs.Unique.{file_same, breaks_alike}
 use Rattle.proto_types.proofs.typing.typing_is_unique.Goals as goal
 

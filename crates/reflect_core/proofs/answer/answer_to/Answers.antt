@@ -1,4 +1,4 @@
-use Rattle.reflect_core.specs.Answer.{no_extension, listed, nothing_asked}
+use Rattle.reflect_core.proofs.Common.{no_extension, listed, nothing_asked}
 use Rattle.reflect_core.proofs.answer.answer_to.Goals as goal
 
 pub returns-in-FileByExtension-clause-answer : goal.returns-in-FileByExtension-clause-answer

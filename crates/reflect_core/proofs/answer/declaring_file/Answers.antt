@@ -1,4 +1,4 @@
-use Rattle.reflect_core.specs.Answer.{declared, not_declared}
+use Rattle.reflect_core.proofs.Common.{declared, not_declared}
 use Rattle.reflect_core.proofs.Declaring.{declares_of}
 use Rattle.reflect_core.proofs.answer.declaring_file.Goals as goal
 

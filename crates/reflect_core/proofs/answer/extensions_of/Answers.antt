@@ -1,8 +1,6 @@
-use Rattle.std.proofs.Common.{◌≡◌, Some, sym, ap, ◌∙◌}
+use Rattle.reflect_core.proofs.Common.{◌≡◌, Some, sym, ap, ◌∙◌, same_Some, message, no_message}
 use Rattle.std.proofs.lemmas.Bool.{false≢true}
-use Rattle.std.proofs.lemmas.Option.{same_Some}
 use Rattle.proto_desc.specs.declared.name_kind.NameKind.TheVariants.{Message}
-use Rattle.reflect_core.specs.Answer.{message, no_message}
 use Rattle.reflect_core.proofs.Declaring.{declares_of}
 use Rattle.reflect_core.proofs.answer.extensions_of.Goals as goal
 use Rattle.reflect_core.proofs.answer.extensions_of.Goals.{in_default-via-in-Some+else-is_message, in_default-via-in_default}

@@ -1,4 +1,4 @@
-use Rattle.reflect_core.specs.Answer.{named, not_named}
+use Rattle.reflect_core.proofs.Common.{named, not_named}
 use Rattle.reflect_core.proofs.answer.named_file.Goals as goal
 
 pub returns-in-Some-clause-answer : goal.returns-in-Some-clause-answer

@@ -1,12 +1,5 @@
-use Rattle.std.proofs.Common.{ℕ, ◌+◌, ◌<◌, List, [], ◌∷◌, ◌++◌, length, map, take, get_or, arith, refl}
-use Rattle.std.specs.List.{AllZip}
+use Rattle.reflect_core.proofs.Common.{ℕ, ◌+◌, ◌<◌, List, [], ◌∷◌, ◌++◌, length, map, take, get_or, arith, refl, AllZip, All-push, All-get_or, all_zipped_more, count_of, IsAsked, root, IsRootWithin, asked_of, Reads, bytes_of}
 use Rattle.std.proofs.lemmas.List.{map_more, map-append}
-use Rattle.std.proofs.lemmas.List.Elements.{All-push, All-get_or}
-use Rattle.std.proofs.lemmas.Slice.Zip.{all_zipped_more}
-use Rattle.proto_links.specs.Linked.{count_of}
-use Rattle.reflect_core.specs.Response.{IsAsked, root}
-use Rattle.reflect_core.specs.ResponseSteps.{IsRootWithin, asked_of}
-use Rattle.reflect_requests.specs.ProgramFrames.{Reads, bytes_of}
 use Rattle.reflect_core.proofs.asked.asked_in.Goals as goal
 
 -- lists of two kinds, related item by item, one item longer

@@ -1,9 +1,4 @@
-use Rattle.std.proofs.Common.{map, take, All}
-use Rattle.std.specs.List.{AllZip}
-use Rattle.proto_links.specs.Linked.{count_of}
-use Rattle.reflect_core.specs.Response.{IsAsked, root}
-use Rattle.reflect_core.specs.ResponseSteps.{IsRootWithin, asked_of}
-use Rattle.reflect_requests.specs.ProgramFrames.{bytes_of}
+use Rattle.reflect_core.proofs.Common.{map, take, All, AllZip, count_of, IsAsked, root, IsRootWithin, asked_of, bytes_of}
 use Rattle.reflect_core.proofs.asked.asked_in.Given as goal
 
 abbrev pub invariant-loop-message : goal.invariant-loop-message

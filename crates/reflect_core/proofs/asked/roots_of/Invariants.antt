@@ -1,6 +1,4 @@
-use Rattle.std.proofs.Common.{◌≡◌, map, take}
-use Rattle.reflect_core.specs.Response.{root}
-use Rattle.reflect_core.specs.ResponseSteps.{asked_of}
+use Rattle.reflect_core.proofs.Common.{◌≡◌, map, take, root, asked_of}
 use Rattle.reflect_core.proofs.asked.roots_of.Given as goal
 
 abbrev pub invariant-loop-request : goal.invariant-loop-request

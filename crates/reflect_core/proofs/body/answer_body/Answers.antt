@@ -1,10 +1,5 @@
-use Rattle.std.proofs.Common.{map}
-use Rattle.std.proofs.lemmas.List.Elements.{All-map}
+use Rattle.reflect_core.proofs.Common.{map, All-map, count_of, bytes_of, root, IsRootWithin, asked_of}
 use Rattle.std.proofs.lemmas.Result.{IfOk-weaker}
-use Rattle.proto_links.specs.Linked.{count_of}
-use Rattle.reflect_requests.specs.ProgramFrames.{bytes_of}
-use Rattle.reflect_core.specs.Response.{root}
-use Rattle.reflect_core.specs.ResponseSteps.{IsRootWithin, asked_of}
 use Rattle.reflect_core.proofs.AnsweringBody.{replyable, allowed_of}
 use Rattle.reflect_core.proofs.body.answer_body.Goals as goal
 

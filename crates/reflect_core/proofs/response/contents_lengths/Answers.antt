@@ -1,5 +1,4 @@
-use Rattle.std.proofs.Common.{◌∙◌, ap}
-use Rattle.reflect_core.specs.ResponseSteps.{files_of}
+use Rattle.reflect_core.proofs.Common.{◌∙◌, ap, files_of}
 use Rattle.reflect_core.proofs.RepliesMore.{contents_at}
 use Rattle.reflect_core.proofs.response.contents_lengths.Goals as goal
 

@@ -1,4 +1,4 @@
-use Rattle.reflect_core.specs.ResponseSteps.{AreContentsLengths}
+use Rattle.reflect_core.proofs.Common.{AreContentsLengths}
 use Rattle.reflect_core.proofs.response.contents_lengths.Given as goal
 
 abbrev pub invariant-loop-position : goal.invariant-loop-position

@@ -1,5 +1,4 @@
-use Rattle.std.proofs.Common.{arith}
-use Rattle.std.proofs.lemmas.Grind.{common_steps}
+use Rattle.reflect_core.proofs.Common.{arith, common_steps}
 use Rattle.reflect_core.proofs.response.list_of_services.Goals as goal
 
 pub returns : goal.returns

@@ -1,5 +1,4 @@
-use Rattle.std.proofs.Common.{◌≡◌, take, string_bytes, map, flat_map}
-use Rattle.wire_format.specs.Field.{bytes_field}
+use Rattle.reflect_core.proofs.Common.{◌≡◌, take, string_bytes, map, flat_map, bytes_field}
 use Rattle.reflect_core.proofs.response.list_of_services.Given as goal
 
 abbrev pub invariant-loop-name : goal.invariant-loop-name

@@ -1,7 +1,5 @@
-use Rattle.std.proofs.Common.{◌≡◌, [], ◌∷◌, length, ap, arith, length-append, decimal}
+use Rattle.reflect_core.proofs.Common.{◌≡◌, [], ◌∷◌, length, ap, arith, length-append, decimal, common_steps, trailer}
 use Rattle.std.proofs.lemmas.Fmt.{length-decimal-le}
-use Rattle.std.proofs.lemmas.Grind.{common_steps}
-use Rattle.reflect_core.specs.Response.{trailer}
 use Rattle.reflect_core.proofs.response.put_trailer.Goals as goal
 
 pub overflow_cast-len : goal.overflow_cast-len

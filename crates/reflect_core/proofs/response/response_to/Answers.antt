@@ -1,5 +1,4 @@
-use Rattle.std.proofs.Common.{◌∙◌, ap, arith}
-use Rattle.reflect_core.specs.ResponseSteps.{files_of}
+use Rattle.reflect_core.proofs.Common.{◌∙◌, ap, arith, files_of}
 use Rattle.reflect_core.specs.declared.asked.Asked as rust
 use Rattle.reflect_core.proofs.RepliesMore.{frames_more}
 use Rattle.reflect_core.proofs.response.response_to.Goals as goal

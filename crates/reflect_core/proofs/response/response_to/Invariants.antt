@@ -1,7 +1,4 @@
-use Rattle.std.proofs.Common.{◌≡◌, map, take, flat_map}
-use Rattle.reflect_core.specs.Response.{replies_to}
-use Rattle.reflect_core.specs.ResponseSteps.{asked_of, files_of}
-use Rattle.reflect_requests.specs.Frames.{frame}
+use Rattle.reflect_core.proofs.Common.{◌≡◌, map, take, flat_map, replies_to, asked_of, files_of, frame}
 use Rattle.reflect_core.proofs.response.response_to.Given as goal
 
 abbrev pub invariant-loop-position : goal.invariant-loop-position

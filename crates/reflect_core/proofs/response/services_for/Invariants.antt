@@ -1,5 +1,4 @@
-use Rattle.std.proofs.Common.{◌≡◌, ℕ, ◌<◌, get_or}
-use Rattle.reflect_core.specs.Answer.{services}
+use Rattle.reflect_core.proofs.Common.{◌≡◌, ℕ, ◌<◌, get_or, services}
 use Rattle.reflect_core.specs.ProgramAnswers.{answer_of}
 use Rattle.reflect_core.specs.declared.asked.Asked as rust
 use Rattle.reflect_core.proofs.response.services_for.Given as goal

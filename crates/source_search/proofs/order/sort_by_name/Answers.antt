@@ -1,9 +1,6 @@
-use Rattle.std.proofs.Common.{◌≡◌, rules, nat_cmp, is_lt}
+use Rattle.source_search.proofs.Common.{◌≡◌, rules, nat_cmp, is_lt, nat_list_cmp_total, ranks_by, name_of}
 use Rattle.std.specs.Cmp.Lexicographic.{slice_cmp}
-use Rattle.std.proofs.lemmas.Cmp.{nat_list_cmp_total}
 use Rattle.std.proofs.lemmas.Fn.{always_returns_same}
-use Rattle.std.proofs.lemmas.List.Sorted.{ranks_by}
-use Rattle.source_folder.specs.Folder.{name_of}
 use Rattle.source_search.proofs.order.sort_by_name.Goals as goal
 
 pub returns-clause-order : goal.returns-clause-order

@@ -1,5 +1,5 @@
 use Rattle.std.proofs.lemmas.Result.{IfOk-weaker}
-use Rattle.source_search.specs.Searching.{SourceImports}
+use Rattle.source_search.proofs.Common.{SourceImports}
 use Rattle.share_work.proofs.Giving.{all_of_gives}
 use Rattle.source_search.proofs.reading.imports_of_each.Goals as goal
 

@@ -1,5 +1,5 @@
 use Rattle.source_search.proofs.Naming.{permuted_differ, sorted_rise}
-use Rattle.source_search.proofs.Rounds.{all_wanted, given_held, if_known}
+use Rattle.source_search.proofs.Asking.{all_wanted, given_held, if_known}
 use Rattle.source_search.proofs.sources.with_imports.Goals as goal
 
 pub returns-clause-order : goal.returns-clause-order

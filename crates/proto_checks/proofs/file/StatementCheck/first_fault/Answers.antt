@@ -1,4 +1,4 @@
-use Rattle.proto_base.proofs.Among.{if_ok}
+use Rattle.proto_checks.proofs.Common.{if_ok}
 use Rattle.proto_checks.proofs.Elements.{one_kind}
 use Rattle.proto_checks.proofs.file.StatementCheck.first_fault.Goals as goal
 

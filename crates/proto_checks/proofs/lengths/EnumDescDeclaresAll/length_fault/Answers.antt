@@ -1,4 +1,4 @@
-use Rattle.proto_base.proofs.Among.{least_cons}
+use Rattle.proto_checks.proofs.Common.{least_cons}
 use Rattle.proto_checks.proofs.lengths.EnumDescDeclaresAll.length_fault.Goals as goal
 
 pub returns : goal.returns

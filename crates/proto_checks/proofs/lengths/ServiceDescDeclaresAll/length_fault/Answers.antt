@@ -1,5 +1,4 @@
-use Rattle.proto_desc.specs.DeclaredNames.{scoped}
-use Rattle.proto_base.proofs.Among.{least_cons}
+use Rattle.proto_checks.proofs.Common.{scoped, least_cons}
 use Rattle.proto_checks.proofs.lengths.ServiceDescDeclaresAll.length_fault.Goals as goal
 
 pub returns : goal.returns

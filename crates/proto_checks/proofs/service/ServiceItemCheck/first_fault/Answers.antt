@@ -1,4 +1,4 @@
-use Rattle.proto_base.proofs.Among.{if_ok, least_single}
+use Rattle.proto_checks.proofs.Common.{if_ok, least_single}
 use Rattle.proto_checks.proofs.service.ServiceItemCheck.first_fault.Goals as goal
 
 pub returns-in-Rpc : goal.returns-in-Rpc

@@ -1,5 +1,4 @@
-use Rattle.std.proofs.Common.{◌≡◌, map}
-use Rattle.proto_compile.specs.declared.pass.filling.Untyped.{Untyped}
+use Rattle.proto_compile.proofs.Common.{◌≡◌, map, Untyped}
 use Rattle.proto_compile.proofs.pass.filling.descriptors.Given as goal
 
 abbrev pub invariant-loop-file : goal.invariant-loop-file

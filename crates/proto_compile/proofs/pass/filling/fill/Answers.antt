@@ -1,4 +1,4 @@
-use Rattle.proto_links.specs.Linked.{sees}
+use Rattle.proto_compile.proofs.Common.{sees}
 use Rattle.proto_compile.proofs.pass.filling.fill.Goals as goal
 
 pub returns : goal.returns

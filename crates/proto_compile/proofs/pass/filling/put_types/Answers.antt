@@ -1,13 +1,6 @@
-use Rattle.std.proofs.Common.{Global, Vec, ◌≡◌, ◌∙◌, ℕ, suc, ◌+◌, ◌<◌, ◌++◌, List, [], ◌∷◌, ap, drop, get_or, length, map, sym, take, arith, append-nil, take_all}
-use Rattle.std.proofs.lemmas.List.{drop_all}
-use Rattle.std.proofs.lemmas.Result.{IfOk-weaker}
-use Rattle.proto_desc.specs.declared.file.FileDesc.{FileDesc}
+use Rattle.proto_compile.proofs.Common.{Global, Vec, ◌≡◌, ◌∙◌, ℕ, suc, ◌+◌, ◌<◌, ◌++◌, List, [], ◌∷◌, ap, drop, get_or, length, map, sym, take, arith, append-nil, take_all, drop_all, IfOk-weaker, FileDesc, AllZipFrom, AreTypesOf, IsTypedWhole, Untyped, gives_each}
 use Rattle.proto_types.specs.declared.meaning.NamedType.{NamedType}
-use Rattle.proto_compile.specs.Analysed.{AllZipFrom}
-use Rattle.proto_compile.specs.Outcomes.{AreTypesOf, IsTypedWhole}
-use Rattle.proto_compile.specs.declared.pass.filling.Untyped.{Untyped}
 use Rattle.proto_compile.proofs.pass.filling.put_types.Goals as goal
-use Rattle.share_work.proofs.Giving.{gives_each}
 
 abbrev desc_in : Untyped → FileDesc
 desc_in f = f.desc

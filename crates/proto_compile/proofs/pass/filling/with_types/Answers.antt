@@ -1,5 +1,4 @@
-use Rattle.std.proofs.Common.{◌≡◌, ◌⊎◌, ◌++◌, List, arith, length, map, length-append}
-use Rattle.std.proofs.lemmas.List.{length-map}
+use Rattle.proto_compile.proofs.Common.{◌≡◌, ◌⊎◌, ◌++◌, List, arith, length, map, length-append, length-map}
 use Rattle.proto_names.proofs.Tabled.{all_taken}
 use Rattle.proto_compile.proofs.pass.filling.with_types.Goals as goal
 

@@ -1,5 +1,4 @@
-use Rattle.std.proofs.Common.{arith, ap, Err}
-use Rattle.proto_links.proofs.NameRows.{name_is}
+use Rattle.proto_compile.proofs.Common.{arith, ap, Err, name_is}
 use Rattle.proto_compile.proofs.LeastFault.{told, import_least}
 use Rattle.proto_compile.proofs.OneTyping.{bad_inside}
 use Rattle.proto_compile.proofs.pass.imports.link_all.Goals as goal

@@ -1,15 +1,5 @@
-use Rattle.std.proofs.Common.{◌≡◌, ◌∙◌, sym, refl, ℕ, List, map, All, Ok, Vec, Global}
-use Rattle.std.proofs.lemmas.List.Elements.{All-cons, All-nil}
-use Rattle.std.proofs.lemmas.Result.{IfOk-weaker}
-use Rattle.proto_base.specs.declared.limits.Limits.{Limits}
-use Rattle.proto_desc.specs.declared.file.FileDesc.{FileDesc}
-use Rattle.wire_bytes.specs.Descriptor.{file_desc_bytes}
-use Rattle.proto_compile.specs.Compilation.{IsShort}
-use Rattle.proto_compile.specs.FaultSet.{IsLeastFault}
-use Rattle.proto_compile.specs.Outcomes.{IsFirstFound, IsWrittenShort}
-use Rattle.proto_compile.specs.Steps.{items_of}
+use Rattle.proto_compile.proofs.Common.{◌≡◌, ◌∙◌, sym, refl, ℕ, List, map, All, Ok, Vec, Global, All-cons, All-nil, IfOk-weaker, Limits, FileDesc, file_desc_bytes, IsShort, IsLeastFault, IsFirstFound, IsWrittenShort, items_of, gives_each, gives_well}
 use Rattle.share_work.specs.Shares.{GivesItems}
-use Rattle.share_work.proofs.Giving.{gives_each, gives_well}
 use Rattle.proto_compile.proofs.LeastFault.{err_tells, first_long}
 use Rattle.proto_compile.proofs.pass.lengths.write_all.Goals as goal
 

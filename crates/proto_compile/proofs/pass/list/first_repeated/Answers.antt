@@ -1,5 +1,4 @@
-use Rattle.std.proofs.Common.{arith, true≢false}
-use Rattle.std.proofs.lemmas.Bool.{cases_lt}
+use Rattle.proto_compile.proofs.Common.{arith, true≢false, cases_lt}
 use Rattle.proto_compile.proofs.pass.list.first_repeated.Goals as goal
 
 pub loop-next-preserved : goal.loop-next-preserved

@@ -1,5 +1,4 @@
-use Rattle.std.proofs.Common.{◌≢◌, ℕ, ◌+◌, ◌<◌}
-use Rattle.proto_compile.specs.Sources.{name_at}
+use Rattle.proto_compile.proofs.Common.{◌≢◌, ℕ, ◌+◌, ◌<◌, name_at}
 use Rattle.proto_compile.proofs.pass.list.first_repeated.Given as goal
 
 abbrev pub invariant-loop-next : goal.invariant-loop-next

@@ -1,6 +1,5 @@
-use Rattle.std.specs.Cmp.Lexicographic.{slice_cmp}
-use Rattle.std.specs.Ordering.{nat_cmp}
-use Rattle.proto_compile.specs.Sources.{name_of, text_of}
+use Rattle.proto_compile.proofs.Common.{slice_cmp, nat_cmp, text_of}
+use Rattle.proto_compile.specs.Sources.{name_of}
 use Rattle.proto_names.proofs.Ordered.{first_not}
 use Rattle.proto_compile.proofs.Sorting.{sorted_names}
 use Rattle.proto_compile.proofs.pass.list.sorted.Goals as goal

@@ -1,11 +1,4 @@
-use Rattle.std.proofs.Common.{◌≡◌, sym, map, Ok, Vec, Global}
-use Rattle.std.specs.List.{AllZip}
-use Rattle.std.proofs.lemmas.Result.{IfOk-weaker}
-use Rattle.proto_desc.specs.declared.file.FileDesc.{FileDesc}
-use Rattle.proto_compile.specs.Descriptions.{SourceDescribes}
-use Rattle.proto_compile.specs.FaultSet.{IsLeastFault}
-use Rattle.proto_compile.specs.Outcomes.{IsDescribed, IsFirstFound}
-use Rattle.share_work.proofs.Giving.{all_of_gives, gives_well}
+use Rattle.proto_compile.proofs.Common.{◌≡◌, sym, map, Ok, Vec, Global, AllZip, IfOk-weaker, FileDesc, SourceDescribes, IsLeastFault, IsDescribed, IsFirstFound, all_of_gives, gives_well}
 use Rattle.proto_compile.proofs.LeastFault.{err_tells, first_local}
 use Rattle.proto_compile.proofs.pass.local.describe_all.Goals as goal
 

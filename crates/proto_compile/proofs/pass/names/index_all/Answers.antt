@@ -1,5 +1,4 @@
-use Rattle.std.proofs.Common.{ap, arith, Err}
-use Rattle.proto_links.proofs.NameRows.{name_is}
+use Rattle.proto_compile.proofs.Common.{ap, arith, Err, name_is}
 use Rattle.proto_compile.proofs.LeastFault.{told, many_names_least, name_twice_least}
 use Rattle.proto_compile.proofs.OneTyping.{repeated_within}
 use Rattle.proto_compile.proofs.pass.names.index_all.Goals as goal

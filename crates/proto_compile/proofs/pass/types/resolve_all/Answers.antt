@@ -1,13 +1,5 @@
-use Rattle.std.proofs.Common.{arith, ◌≡◌, ℕ, ◌+◌, List, [], ◌∷◌, All, rules, true}
-use Rattle.std.proofs.lemmas.List.Elements.{All-cons, All-nil}
+use Rattle.proto_compile.proofs.Common.{arith, ◌≡◌, ℕ, ◌+◌, List, [], ◌∷◌, All, rules, true, All-cons, All-nil, FileDesc, Linked, Index, AllZipFrom, AreTypedFrom, IsLeastFault, IsFirstFound, IsResolved, IsTypedWhole, gives_well}
 use Rattle.proto_desc.specs.Resolved.{file_resolved}
-use Rattle.proto_desc.specs.declared.file.FileDesc.{FileDesc}
-use Rattle.proto_links.specs.Linked.{Linked}
-use Rattle.proto_names.specs.Index.{Index}
-use Rattle.proto_compile.specs.Analysed.{AllZipFrom, AreTypedFrom}
-use Rattle.proto_compile.specs.FaultSet.{IsLeastFault}
-use Rattle.proto_compile.specs.Outcomes.{IsFirstFound, IsResolved, IsTypedWhole}
-use Rattle.share_work.proofs.Giving.{gives_well}
 use Rattle.proto_compile.proofs.LeastFault.{tells_more, first_break}
 use Rattle.proto_compile.proofs.pass.types.resolve_all.Goals as goal
 

@@ -1,5 +1,4 @@
-use Rattle.std.proofs.Common.{sym, ◌<◌, length, arith}
-use Rattle.std.proofs.lemmas.List.{get_or_default}
+use Rattle.proto_links.proofs.Common.{sym, ◌<◌, length, arith, get_or_default}
 use Rattle.proto_links.proofs.Positions.{sees_there}
 use Rattle.proto_links.proofs.links.Links.sees.Goals as goal
 

@@ -1,8 +1,6 @@
-use Rattle.std.proofs.Common.{◌≡◌, ◌∙◌, sym, ℕ, ◌<◌, length, get_or, arith, ◌↔◌, IsTrue}
-use Rattle.std.proofs.lemmas.List.{get_or_default}
+use Rattle.proto_links.proofs.Common.{◌≡◌, ◌∙◌, sym, ℕ, ◌<◌, length, get_or, arith, ◌↔◌, IsTrue, get_or_default, sees}
 use Rattle.bit_matrix.specs.Bits.{has}
 use Rattle.bit_matrix.specs.Changes.{Meet, columns_of}
-use Rattle.proto_links.specs.Linked.{sees}
 use Rattle.proto_links.proofs.Positions.{sees_there}
 use Rattle.proto_links.proofs.links.Links.sees_one_of.Goals as goal
 

@@ -1,10 +1,7 @@
-use Rattle.std.proofs.lemmas.Grind.{common_steps}
-use Rattle.std.proofs.Common.{◌≡◌, ◌∙◌, ap, refl, ℕ, ◌+◌, ◌-◌, List, [], ◌∷◌, ◌++◌, length, map, arith, length-append, length-drop, IsUtf8}
-use Rattle.std.proofs.lemmas.List.{drop-append-le, take-append-le, drop_at, take_all, map_push}
-use Rattle.std.proofs.lemmas.List.Elements.{All-head, All-tail, All-push, All-weaker}
+use Rattle.proto_names.proofs.Common.{common_steps, ◌≡◌, ◌∙◌, ap, refl, ℕ, ◌+◌, ◌-◌, List, [], ◌∷◌, ◌++◌, length, map, arith, length-append, length-drop, IsUtf8, drop-append-le, take-append-le, drop_at, map_push, All-head, All-tail, All-push, All-weaker, hash_of}
+use Rattle.std.proofs.lemmas.List.{take_all}
 use Rattle.digraph.specs.Marks.{IsFrontOf}
 use Rattle.proto_names.specs.Entries.{name_at, occurrence, IsEntryOf, AreEntriesOf}
-use Rattle.proto_names.specs.Hashes.{hash_of}
 use Rattle.proto_names.specs.declared.entry.Entry.{Entry}
 use Rattle.proto_names.proofs.entries.Entries.push.Goals as goal
 

@@ -1,6 +1,4 @@
-use Rattle.std.proofs.Common.{◌≡◌, ◌∙◌, ap, refl, map, IsPermutation, MatchOption, Option, None, Some}
-use Rattle.proto_names.specs.Occurrences.{occurrences}
-use Rattle.proto_names.specs.Shares.{all_of, table_of}
+use Rattle.proto_names.proofs.Common.{◌≡◌, ◌∙◌, ap, refl, map, IsPermutation, MatchOption, Option, None, Some, occurrences, all_of, table_of}
 use Rattle.proto_names.proofs.Built.{below_files}
 use Rattle.proto_names.proofs.Tabled.{all_services, all_shares, first_twice_of, in_shares, none_twice}
 use Rattle.proto_names.proofs.index.NameIndex.build_by.Goals as goal

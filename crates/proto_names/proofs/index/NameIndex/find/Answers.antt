@@ -1,10 +1,4 @@
-use Rattle.std.proofs.Common.{◌∙◌, sym, ap, arith, subst, Contains, Some}
-use Rattle.std.proofs.lemmas.List.{get_or_default}
-use Rattle.std.proofs.lemmas.List.Elements.{Contains-get_or}
-use Rattle.std.proofs.lemmas.Option.{same_Some}
-use Rattle.proto_names.specs.Index.{Index}
-use Rattle.proto_names.specs.Runs.{at, blank}
-use Rattle.proto_names.specs.declared.entry.Location.{Location}
+use Rattle.proto_names.proofs.Common.{◌∙◌, sym, ap, arith, subst, Contains, Some, get_or_default, Contains-get_or, same_Some, Index, at, blank, Location}
 use Rattle.proto_names.specs.declared.index.Defined.{Defined}
 use Rattle.proto_names.proofs.index.NameIndex.find.Goals as goal
 

@@ -1,5 +1,4 @@
-use Rattle.std.proofs.Common.{◌≡◌, ℕ, ◌<◌, length, None}
-use Rattle.proto_names.specs.Runs.{at}
+use Rattle.proto_names.proofs.Common.{◌≡◌, ℕ, ◌<◌, length, None, at}
 use Rattle.proto_names.proofs.index.NameIndex.find.Given as goal
 
 abbrev pub invariant-loop-position : goal.invariant-loop-position

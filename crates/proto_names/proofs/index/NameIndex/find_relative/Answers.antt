@@ -1,4 +1,4 @@
-use Rattle.proto_names.specs.Resolution.{SeenBy}
+use Rattle.proto_names.proofs.Common.{SeenBy}
 use Rattle.proto_names.proofs.Unique.{means_nothing, no_type, only_innermost}
 use Rattle.proto_names.proofs.index.NameIndex.find_relative.Goals as goal
 

@@ -1,5 +1,4 @@
-use Rattle.std.proofs.Common.{lit<}
-use Rattle.std.proofs.lemmas.Str.Pattern.{strip_prefix_char}
+use Rattle.proto_names.proofs.Common.{lit<, strip_prefix_char}
 use Rattle.proto_names.proofs.index.NameIndex.find_type.Goals as goal
 
 pub find_relative-requires-clause-relative : goal.find_relative-requires-clause-relative

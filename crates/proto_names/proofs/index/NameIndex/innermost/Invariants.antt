@@ -1,6 +1,4 @@
-use Rattle.std.proofs.Common.{List, ℕ, length}
-use Rattle.proto_names.specs.Resolution.{SeenBy, Decides}
-use Rattle.proto_names.specs.Scopes.{IsCandidate}
+use Rattle.proto_names.proofs.Common.{List, ℕ, length, SeenBy, Decides, IsCandidate}
 use Rattle.proto_names.proofs.index.NameIndex.innermost.Given as goal
 
 abbrev pub invariant-loop-decision : goal.invariant-loop-decision

@@ -1,9 +1,4 @@
-use Rattle.std.proofs.Common.{ap, arith}
-use Rattle.std.proofs.lemmas.List.Elements.{Contains-get_or}
-use Rattle.proto_desc.specs.DeclaredNames.{scoped}
-use Rattle.proto_names.specs.Index.{Index}
-use Rattle.proto_names.specs.Resolution.{SeenBy}
-use Rattle.proto_names.specs.Steps.{fits}
+use Rattle.proto_names.proofs.Common.{ap, arith, Contains-get_or, scoped, Index, SeenBy, fits}
 use Rattle.proto_names.proofs.Unique.{among_visible, visible_among}
 use Rattle.proto_names.proofs.index.NameIndex.is_visible.Goals as goal
 

@@ -1,8 +1,4 @@
-use Rattle.std.proofs.Common.{ap, arith}
-use Rattle.std.proofs.lemmas.List.Elements.{Contains-get_or}
-use Rattle.proto_desc.specs.DeclaredNames.{scoped}
-use Rattle.proto_names.specs.Index.{Index}
-use Rattle.proto_names.specs.Resolution.{SeenBy}
+use Rattle.proto_names.proofs.Common.{ap, arith, Contains-get_or, scoped, Index, SeenBy}
 use Rattle.proto_names.proofs.Unique.{type_visible}
 use Rattle.proto_names.proofs.index.NameIndex.type_of.Goals as goal
 

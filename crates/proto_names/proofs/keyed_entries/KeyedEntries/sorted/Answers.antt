@@ -1,7 +1,5 @@
-use Rattle.std.proofs.Common.{◌≡◌, ◌∙◌, ◌++◌, ap, drop, length, take, IsPermutation}
-use Rattle.std.proofs.lemmas.List.Sorted.{All-permutation, IsPermutation-map}
+use Rattle.proto_names.proofs.Common.{◌≡◌, ◌∙◌, ◌++◌, ap, drop, length, take, IsPermutation, All-permutation, IsPermutation-map, AreKeysAmong, IsKeyAmong, at_key}
 use Rattle.digraph.proofs.Rows.{written}
-use Rattle.proto_names.specs.Keys.{AreKeysAmong, IsKeyAmong, at_key}
 use Rattle.proto_names.proofs.Searching.{sorted_found}
 use Rattle.proto_names.proofs.keyed_entries.KeyedEntries.sorted.Goals as goal
 

@@ -1,7 +1,4 @@
-use Rattle.std.proofs.Common.{arith}
-use Rattle.std.proofs.lemmas.List.{drop-map, take_rest}
-use Rattle.std.proofs.lemmas.List.Elements.{All-drop}
-use Rattle.proto_names.specs.Keys.{IsKeyAmong}
+use Rattle.proto_names.proofs.Common.{arith, drop-map, take_rest, All-drop, IsKeyAmong}
 use Rattle.proto_names.proofs.names.Names.skip.Goals as goal
 
 pub invariant_of-result : goal.invariant_of-result

@@ -1,7 +1,4 @@
-use Rattle.std.proofs.Common.{arith}
-use Rattle.std.proofs.lemmas.List.{take-map}
-use Rattle.std.proofs.lemmas.List.Elements.{All-take}
-use Rattle.proto_names.specs.Keys.{IsKeyAmong}
+use Rattle.proto_names.proofs.Common.{arith, take-map, All-take, IsKeyAmong}
 use Rattle.proto_names.proofs.names.Names.take.Goals as goal
 
 pub invariant_of-result : goal.invariant_of-result

@@ -1,11 +1,4 @@
-use Rattle.std.proofs.lemmas.Grind.{common_steps}
-use Rattle.std.proofs.Common.{◌≡◌, ap, refl, ℕ, ◌+◌, ◌<◌, ◌≤◌, List, length, take, drop, inl, inr, arith, length-drop, length-take-le}
-use Rattle.std.proofs.lemmas.Bool.{cases_lt}
-use Rattle.std.proofs.lemmas.List.{get_or_append_left, get_or_push, length_push}
-use Rattle.bit_matrix.specs.Bits.{Bits, has}
-use Rattle.bit_matrix.specs.Changes.{columns_of}
-use Rattle.proto_names.specs.Occurrences.{Occurrence}
-use Rattle.proto_names.specs.Packages.{ArePackagesOf, HasPackagePut, IsPackageOf, occurrences_in, run_at}
+use Rattle.proto_names.proofs.Common.{common_steps, ◌≡◌, ap, refl, ℕ, ◌+◌, ◌<◌, ◌≤◌, List, length, take, drop, inl, inr, arith, length-drop, length-take-le, cases_lt, get_or_append_left, get_or_push, length_push, Bits, has, columns_of, Occurrence, ArePackagesOf, HasPackagePut, IsPackageOf, occurrences_in, run_at}
 use Rattle.proto_names.specs.declared.packages.Run.{Run}
 use Rattle.proto_names.proofs.packages.Packages.among.Goals as goal
 use Rattle.proto_names.proofs.packages.Packages.among.Goals.{then-len-gt-FEW+then-are_packages+in_ok-push, else-len-gt-FEW}

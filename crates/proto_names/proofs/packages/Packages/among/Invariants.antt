@@ -1,6 +1,4 @@
-use Rattle.std.proofs.Common.{◌≤◌, ◌-◌, length}
-use Rattle.bit_matrix.specs.Changes.{columns_of}
-use Rattle.proto_names.specs.Packages.{ArePackagesOf}
+use Rattle.proto_names.proofs.Common.{◌≤◌, ◌-◌, length, columns_of, ArePackagesOf}
 use Rattle.proto_names.proofs.packages.Packages.among.Given as goal
 
 abbrev pub invariant-loop-start : goal.invariant-loop-start

@@ -1,9 +1,6 @@
-use Rattle.std.proofs.Common.{◌≡◌, ◌∙◌, sym, ap, rules, nat_cmp}
+use Rattle.proto_names.proofs.Common.{◌≡◌, ◌∙◌, sym, ap, rules, nat_cmp, get_or_default, exact_unsigned, run_at}
 use Rattle.std.proofs.lemmas.Fn.{always_returns_same}
-use Rattle.std.proofs.lemmas.List.{get_or_default}
-use Rattle.std.proofs.lemmas.Map.Lookups.{exact_unsigned}
 use Rattle.proto_names.specs.declared.packages.Run.{Run}
-use Rattle.proto_names.specs.Packages.{run_at}
 use Rattle.proto_names.proofs.packages.Packages.files_of.Goals as goal
 
 pub returns-in-Ok : goal.returns-in-Ok

@@ -1,5 +1,4 @@
-use Rattle.std.proofs.Common.{◌∙◌, ◌<◌, ap, sym, arith, length, true≢false}
-use Rattle.proto_names.specs.Resolution.{is_scope}
+use Rattle.proto_names.proofs.Common.{◌∙◌, ◌<◌, ap, sym, arith, length, true≢false, is_scope}
 use Rattle.proto_names.proofs.Starting.{tells_next, tells_set}
 use Rattle.proto_names.proofs.scope_hashes.ScopeHashes.among.Goals as goal
 use Rattle.proto_names.proofs.scope_hashes.ScopeHashes.among.Goals.{then-fits, else-fits}

@@ -1,6 +1,4 @@
-use Rattle.std.proofs.Common.{◌≤◌, ◌<◌, take}
-use Rattle.bit_matrix.specs.Changes.{columns_of}
-use Rattle.proto_names.specs.ScopeHashes.{TellsScopes}
+use Rattle.proto_names.proofs.Common.{◌≤◌, ◌<◌, take, columns_of, TellsScopes}
 use Rattle.proto_names.proofs.scope_hashes.ScopeHashes.among.Given as goal
 
 abbrev pub invariant-loop-position : goal.invariant-loop-position

@@ -1,6 +1,4 @@
-use Rattle.std.proofs.Common.{◌≢◌, ℕ, ◌<◌}
-use Rattle.proto_desc.specs.DeclaredNames.{scoped}
-use Rattle.proto_names.specs.Runs.{at}
+use Rattle.proto_names.proofs.Common.{◌≢◌, ℕ, ◌<◌, scoped, at}
 use Rattle.proto_names.proofs.starts.Starts.start_of.Given as goal
 
 -- none of those before the position has the name

@@ -1,5 +1,4 @@
-use Rattle.std.proofs.Common.{◌∙◌, ap, sym}
-use Rattle.proto_names.specs.Hashes.{hash_of}
+use Rattle.proto_names.proofs.Common.{◌∙◌, ap, sym, hash_of}
 use Rattle.proto_names.proofs.tables.Tables.named.Goals as goal
 
 pub returns-clause-found : goal.returns-clause-found

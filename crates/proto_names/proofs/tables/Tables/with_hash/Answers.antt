@@ -1,7 +1,4 @@
-use Rattle.std.proofs.Common.{◌≡◌, ◌∙◌, arith, ◌%◌, length}
-use Rattle.std.proofs.lemmas.Nat.{mod_below}
-use Rattle.std.proofs.lemmas.Option.{slice_get_read}
-use Rattle.proto_names.specs.Hashes.{hash_of}
+use Rattle.proto_names.proofs.Common.{◌≡◌, ◌∙◌, arith, ◌%◌, length, mod_below, slice_get_read, hash_of}
 use Rattle.proto_names.proofs.Tabled.{among_all, among_one}
 use Rattle.proto_names.proofs.tables.Tables.with_hash.Goals as goal
 

@@ -1,10 +1,5 @@
-use Rattle.std.proofs.Common.{◌≡◌, ◌+◌, ◌*◌, length}
-use Rattle.proto_syntax.specs.Grammar.{Many, ◌⨾◌}
-use Rattle.proto_syntax.specs.Reading.{read}
-use Rattle.proto_syntax.specs.Trees.{message_item_tree}
-use Rattle.proto_syntax.specs.Gives.{spellings}
-use Rattle.proto_syntax.specs.Language.{symbol, message_item, message}
-use Rattle.proto_syntax.proofs.Loops.{Closes}
+use Rattle.proto_syntax.proofs.Common.{◌+◌, ◌*◌, length, Many, ◌⨾◌, read, message_item_tree, spellings, symbol, message_item, message}
+use Rattle.proto_syntax.proofs.Loops.{Turn, closed}
 use Rattle.proto_syntax.proofs.parser.Parser.+message.Given as goal
 
 abbrev pub decreases-message_body : goal.decreases-message_body
@@ -17,9 +12,9 @@ abbrev pub decreases-message : goal.decreases-message
 decreases-message l = 3 * l.depth
 
 abbrev pub invariant-message_body-each : goal.invariant-message_body-each
-invariant-message_body-each l = Closes message_item_tree (message_item (message l.depth)) (symbol "}") l.items.items
-    (spellings l.self.rest.now)
-    ≡ read (Many (message_item (message l.fn.depth)) ⨾ symbol "}") (spellings l.fn.self.rest.now)
+invariant-message_body-each l = Turn message_item_tree (message_item (message l.depth)) (closed (symbol "}"))
+    l.items.items (spellings l.self.rest.now)
+    (read (Many (message_item (message l.fn.depth)) ⨾ symbol "}") (spellings l.fn.self.rest.now))
 
 abbrev pub decreases-message_body-each : goal.decreases-message_body-each
 decreases-message_body-each l = length l.self.rest.now

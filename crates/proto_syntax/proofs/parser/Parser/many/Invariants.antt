@@ -1,7 +1,4 @@
-use Rattle.std.proofs.Common.{◌≡◌, length}
-use Rattle.proto_syntax.specs.Grammar.{Many}
-use Rattle.proto_syntax.specs.Reading.{read}
-use Rattle.proto_syntax.specs.Gives.{spellings}
+use Rattle.proto_syntax.proofs.Common.{◌≡◌, length, Many, read, spellings}
 use Rattle.proto_syntax.proofs.Loops.{Rows}
 use Rattle.proto_syntax.proofs.parser.Parser.many.Given as goal
 

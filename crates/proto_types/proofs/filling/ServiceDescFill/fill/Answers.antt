@@ -1,5 +1,4 @@
-use Rattle.std.proofs.Common.{refl}
-use Rattle.proto_desc.specs.DeclaredNames.{scoped}
+use Rattle.proto_types.proofs.Common.{refl, scoped}
 use Rattle.proto_types.proofs.filling.ServiceDescFill.fill.Goals as goal
 
 pub returns : goal.returns

@@ -1,8 +1,5 @@
-use Rattle.std.proofs.Common.{◌≡◌, arith, refl, take_all}
+use Rattle.proto_types.proofs.Common.{◌≡◌, arith, refl, take_all, out-MessageDesc, scope_in, field_scope}
 use Rattle.std.proofs.lemmas.Grind.{common_steps}
-use Rattle.proto_desc.specs.declared.message.MessageDesc.TheViews.{out-MessageDesc}
-use Rattle.proto_desc.proofs.Declared.{scope_in}
-use Rattle.proto_types.specs.References.{field_scope}
 use Rattle.proto_types.proofs.Trees.{references_out}
 use Rattle.proto_types.proofs.Walking.{finds_both}
 use Rattle.proto_types.proofs.finder.Finder.+message.Goals as goal

@@ -1,7 +1,4 @@
-use Rattle.std.proofs.Common.{take, flat_map}
-use Rattle.proto_names.specs.Resolution.{SeenBy}
-use Rattle.proto_types.specs.References.{references_by_message}
-use Rattle.proto_types.specs.Steps.{Finds}
+use Rattle.proto_types.proofs.Common.{take, flat_map, SeenBy, references_by_message, Finds}
 use Rattle.proto_types.proofs.finder.Finder.+message.Given as goal
 
 abbrev pub invariant-loop-nested : goal.invariant-loop-nested

@@ -1,8 +1,4 @@
-use Rattle.std.proofs.Common.{take, flat_map}
-use Rattle.proto_names.specs.Resolution.{SeenBy}
-use Rattle.proto_types.specs.Recalling.{AreRecalled}
-use Rattle.proto_types.specs.References.{references_of_field}
-use Rattle.proto_types.specs.Steps.{Finds}
+use Rattle.proto_types.proofs.Common.{take, flat_map, SeenBy, AreRecalled, references_of_field, Finds}
 use Rattle.proto_types.proofs.finder.Finder.fields.Given as goal
 
 abbrev pub invariant-loop-field : goal.invariant-loop-field

@@ -1,5 +1,4 @@
-use Rattle.std.proofs.Common.{sym}
-use Rattle.std.proofs.lemmas.Result.{IfOk-weaker}
+use Rattle.proto_types.proofs.Common.{sym, IfOk-weaker}
 use Rattle.proto_types.proofs.Recalls.{meaning_by, recalled_more, recalled_type}
 use Rattle.proto_types.proofs.finder.Finder.meaning.Goals as goal
 

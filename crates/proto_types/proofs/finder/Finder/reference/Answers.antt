@@ -1,4 +1,4 @@
-use Rattle.std.proofs.lemmas.Result.{on_ok_weaker}
+use Rattle.proto_types.proofs.Common.{on_ok_weaker}
 use Rattle.proto_types.proofs.Walking.{finds_one}
 use Rattle.proto_types.proofs.finder.Finder.reference.Goals as goal
 

@@ -1,7 +1,4 @@
-use Rattle.std.proofs.Common.{take, flat_map}
-use Rattle.proto_names.specs.Resolution.{SeenBy}
-use Rattle.proto_types.specs.References.{references_of_service}
-use Rattle.proto_types.specs.Steps.{Finds}
+use Rattle.proto_types.proofs.Common.{take, flat_map, SeenBy, references_of_service, Finds}
 use Rattle.proto_types.proofs.finder.Finder.services.Given as goal
 
 abbrev pub invariant-loop-service : goal.invariant-loop-service

@@ -1,10 +1,7 @@
-use Rattle.std.proofs.Common.{◌<◌, length, arith, ap, ◌==◌}
+use Rattle.reflect_core.proofs.Common.{◌<◌, length, arith, ap, ◌==◌, count_by-le-length, length-filter, AllZip-long, Linked, count_of, reach_of}
 use Rattle.std.specs.Set.{is_member}
 use Rattle.std.proofs.lemmas.List.Sorted.{length_permutation}
-use Rattle.std.proofs.lemmas.List.Sums.{count_by-le-length, length-filter}
-use Rattle.std.proofs.lemmas.Slice.Zip.{AllZip-long}
 use Rattle.proto_compile.specs.Descriptions.{SourceDescribes}
-use Rattle.proto_links.specs.Linked.{Linked, count_of, reach_of}
 use Rattle.reflect_core.proofs.file_reach.FileReach.new.Goals as goal
 
 pub invariant_of-result : goal.invariant_of-result

@@ -1,8 +1,5 @@
-use Rattle.std.proofs.Common.{arith, ℕ}
-use Rattle.std.proofs.lemmas.List.Elements.{Contains-get_or}
+use Rattle.reflect_core.proofs.Common.{arith, ℕ, Contains-get_or, bytes_field, bytes_at}
 use Rattle.std.proofs.lemmas.List.Folds.{length-flat_map-take}
-use Rattle.wire_format.specs.Field.{bytes_field}
-use Rattle.proto_compile.specs.Compilation.{bytes_at}
 use Rattle.reflect_core.proofs.reply.Material.files_len.Goals as goal
 
 pub bytes_at-requires : goal.bytes_at-requires

@@ -1,5 +1,4 @@
-use Rattle.std.proofs.Common.{arith}
-use Rattle.std.proofs.lemmas.List.Elements.{Contains-get_or}
+use Rattle.reflect_core.proofs.Common.{arith, Contains-get_or}
 use Rattle.reflect_core.proofs.reply.Material.put_files.Goals as goal
 
 pub bytes_at-requires : goal.bytes_at-requires

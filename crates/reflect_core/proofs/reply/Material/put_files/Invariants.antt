@@ -1,5 +1,4 @@
-use Rattle.std.proofs.Common.{◌≡◌, ◌++◌, take}
-use Rattle.reflect_core.specs.Reply.{files_bytes}
+use Rattle.reflect_core.proofs.Common.{◌≡◌, ◌++◌, take, files_bytes}
 use Rattle.reflect_core.proofs.reply.Material.put_files.Given as goal
 
 abbrev pub invariant-loop-file : goal.invariant-loop-file

@@ -1,5 +1,4 @@
-use Rattle.std.proofs.Common.{arith, refl}
-use Rattle.std.proofs.lemmas.Option.{slice_get_read}
+use Rattle.share_work.proofs.Common.{arith, refl, slice_get_read}
 use Rattle.share_work.proofs.Giving.{gives_next}
 use Rattle.share_work.proofs.each.OneByOneWork.piece.Goals as goal
 

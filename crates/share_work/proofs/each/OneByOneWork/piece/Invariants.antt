@@ -1,5 +1,4 @@
-use Rattle.std.proofs.Common.{take}
-use Rattle.share_work.specs.Shares.{GivesItems}
+use Rattle.share_work.proofs.Common.{take, GivesItems}
 use Rattle.share_work.proofs.each.OneByOneWork.piece.Given as goal
 
 abbrev pub invariant-loop-k : goal.invariant-loop-k

@@ -1,5 +1,4 @@
-use Rattle.std.proofs.Common.{◌≡◌, ◌^◌, slice_index, ap, arith}
-use Rattle.share_work.specs.Views.{SeatValue}
+use Rattle.share_work.proofs.Common.{◌≡◌, ◌^◌, slice_index, ap, arith, SeatValue}
 use Rattle.share_work.proofs.Steps.{IsClosed, closes}
 use Rattle.share_work.proofs.least_table.LeastTable.close.Goals as goal
 

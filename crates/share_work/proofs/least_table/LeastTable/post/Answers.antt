@@ -1,5 +1,4 @@
-use Rattle.std.proofs.Common.{ap, arith}
-use Rattle.share_work.specs.Views.{TableValue}
+use Rattle.share_work.proofs.Common.{ap, arith, TableValue}
 use Rattle.share_work.proofs.Steps.{one_table, post_allows}
 use Rattle.share_work.proofs.least_table.LeastTable.post.Goals as goal
 

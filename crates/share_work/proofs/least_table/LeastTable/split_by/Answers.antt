@@ -1,5 +1,4 @@
-use Rattle.std.proofs.Common.{ap, arith}
-use Rattle.share_work.specs.Views.{SeatValue}
+use Rattle.share_work.proofs.Common.{ap, arith, SeatValue}
 use Rattle.share_work.proofs.Steps.{one_table, IsKept-split}
 use Rattle.share_work.proofs.least_table.LeastTable.split_by.Goals as goal
 

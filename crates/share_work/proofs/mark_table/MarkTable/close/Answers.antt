@@ -1,5 +1,4 @@
-use Rattle.std.proofs.Common.{◌≡◌, ◌^◌, slice_index, ap, arith}
-use Rattle.share_work.specs.Marks.{MarkSeatValue}
+use Rattle.share_work.proofs.Common.{◌≡◌, ◌^◌, slice_index, ap, arith, MarkSeatValue}
 use Rattle.share_work.proofs.MarkSteps.{IsMarkClosed, mark_closes}
 use Rattle.share_work.proofs.mark_table.MarkTable.close.Given as given
 use Rattle.share_work.proofs.mark_table.MarkTable.close.Goals as goal

@@ -1,5 +1,4 @@
-use Rattle.std.proofs.Common.{◌<◌, length, slice_get, sym, refl, ap, ◌∙◌, arith}
-use Rattle.share_work.specs.Marks.{MarkTableValue}
+use Rattle.share_work.proofs.Common.{◌<◌, length, slice_get, sym, refl, ap, ◌∙◌, arith, MarkTableValue}
 use Rattle.share_work.proofs.Paying.{get_some, paying_none, debt_now, paying_more, paying_all}
 use Rattle.share_work.proofs.mark_table.MarkTable.pay.Goals as goal
 

@@ -1,5 +1,4 @@
-use Rattle.std.proofs.Common.{sym, ap, ◌∙◌, arith}
-use Rattle.share_work.specs.Marks.{MarkTableValue}
+use Rattle.share_work.proofs.Common.{sym, ap, ◌∙◌, arith, MarkTableValue}
 use Rattle.share_work.proofs.Paying.{get_some, owed_here, owed_next}
 use Rattle.share_work.proofs.MarkSteps.{paid_allows}
 use Rattle.share_work.proofs.mark_table.MarkTable.pay_one.Goals as goal

@@ -1,5 +1,4 @@
-use Rattle.std.proofs.Common.{sym, ap, ◌∙◌, arith}
-use Rattle.share_work.specs.Marks.{MarkTableValue}
+use Rattle.share_work.proofs.Common.{sym, ap, ◌∙◌, arith, MarkTableValue}
 use Rattle.share_work.proofs.MarkSteps.{root_allows}
 use Rattle.share_work.proofs.mark_table.MarkTable.post_root.Goals as goal
 

@@ -1,5 +1,4 @@
-use Rattle.std.proofs.Common.{ap, arith}
-use Rattle.share_work.specs.Marks.{MarkSeatValue}
+use Rattle.share_work.proofs.Common.{ap, arith, MarkSeatValue}
 use Rattle.share_work.proofs.MarkSteps.{one_table, IsMarked-split}
 use Rattle.share_work.proofs.mark_table.MarkTable.split_by.Goals as goal
 

@@ -1,5 +1,4 @@
-use Rattle.std.proofs.lemmas.Grind.{common_steps, div_ceil_times}
-use Rattle.std.proofs.Common.{rules, ◌≡◌, ◌+◌, ◌*◌, ◌≤◌, length, arith, refl, []}
+use Rattle.share_work.proofs.Common.{common_steps, div_ceil_times, rules, ◌≡◌, ◌+◌, ◌*◌, ◌≤◌, length, arith, refl, []}
 use Rattle.share_work.proofs.PieceRows.{gains_same, gains_joined, haves_idle, haves_joined, OnOk-all}
 use Rattle.share_work.proofs.shares.rows.all_rows.Goals as goal
 

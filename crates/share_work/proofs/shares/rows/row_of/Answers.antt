@@ -1,5 +1,4 @@
-use Rattle.std.proofs.Common.{◌≤◌, ◌*◌, ◌∙◌, arith}
-use Rattle.std.proofs.Math.Nat.{le-mul_of_pos_right}
+use Rattle.std.proofs.Common.{◌≤◌, ◌*◌, ◌∙◌, arith, le-mul_of_pos_right}
 use Rattle.share_work.proofs.PieceRows.{range_piece, row_more, row_whole, row_has, takes_part}
 use Rattle.share_work.proofs.shares.rows.row_of.Goals as goal
 

@@ -1,5 +1,4 @@
-use Rattle.std.proofs.Common.{◌+◌, ◌*◌, ◌≤◌, length, arith}
-use Rattle.std.proofs.Math.Nat.{mul-le-mul_right}
+use Rattle.std.proofs.Common.{◌+◌, ◌*◌, ◌≤◌, length, arith, mul-le-mul_right}
 use Rattle.share_work.proofs.PieceRows.{rows_idle}
 use Rattle.share_work.proofs.shares.rows.with_idle_rows.Goals as goal
 

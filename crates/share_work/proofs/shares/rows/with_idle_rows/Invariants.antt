@@ -1,5 +1,4 @@
-use Rattle.std.proofs.Common.{◌≤◌}
-use Rattle.share_work.specs.WorkerRows.{GivesRows}
+use Rattle.share_work.proofs.Common.{◌≤◌, GivesRows}
 use Rattle.share_work.proofs.shares.rows.with_idle_rows.Given as goal
 
 abbrev pub invariant-loop-worker : goal.invariant-loop-worker

@@ -1,5 +1,4 @@
-use Rattle.std.proofs.Common.{rules, arith, ◌≡◌, ◌+◌, ◌*◌, ◌<◌, length, refl}
-use Rattle.std.proofs.lemmas.Grind.{div_ceil_times}
+use Rattle.share_work.proofs.Common.{rules, arith, ◌≡◌, ◌+◌, ◌*◌, ◌<◌, length, refl, div_ceil_times}
 use Rattle.share_work.proofs.PieceRows.{gives_all, piece_inside, rows_turned, one_piece_more}
 use Rattle.share_work.proofs.shares.weave.woven.Goals as goal
 

@@ -1,4 +1,4 @@
-use Rattle.share_work.specs.WorkerRows.{GivesRows, GivesUpTo}
+use Rattle.share_work.proofs.Common.{GivesRows, GivesUpTo}
 use Rattle.share_work.proofs.shares.weave.woven.Given as goal
 
 abbrev pub invariant-loop-piece : goal.invariant-loop-piece

@@ -1,6 +1,4 @@
-use Rattle.std.proofs.Common.{◌≡◌, ◌∙◌, [], true, append-nil, subst, sym}
-use Rattle.std.proofs.lemmas.List.Elements.{All-cons, All-head, All-nil}
-use Rattle.source_search.specs.Searching.{IsSearched, IsWorth, found_under, is_asked, sources_of}
+use Rattle.source_search.proofs.Common.{◌≡◌, ◌∙◌, [], true, append-nil, subst, sym, All-cons, All-head, All-nil, IsSearched, IsWorth, found_under, is_asked, sources_of}
 use Rattle.source_search.proofs.Asking.{found_more, now_asked, still_asked}
 use Rattle.source_search.proofs.search.Search.ask.Goals as goal
 

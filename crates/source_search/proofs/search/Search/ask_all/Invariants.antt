@@ -1,5 +1,4 @@
-use Rattle.std.proofs.Common.{take, flat_map}
-use Rattle.source_search.specs.Searching.{AsksFor, texts_in}
+use Rattle.source_search.proofs.Common.{take, flat_map, AsksFor, texts_in}
 use Rattle.source_search.proofs.search.Search.ask_all.Given as goal
 
 abbrev pub invariant-loop-names : goal.invariant-loop-names

@@ -1,5 +1,4 @@
-use Rattle.std.proofs.Common.{map, take, string_bytes}
-use Rattle.source_search.specs.Searching.{AsksFor}
+use Rattle.source_search.proofs.Common.{map, take, string_bytes, AsksFor}
 use Rattle.source_search.proofs.search.Search.ask_each.Given as goal
 
 abbrev pub invariant-loop-name : goal.invariant-loop-name

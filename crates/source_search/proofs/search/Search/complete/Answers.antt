@@ -1,9 +1,5 @@
-use Rattle.std.proofs.lemmas.List.{length-map}
-use Rattle.std.proofs.Common.{◌≡◌, ◌∙◌, ◌-◌, List, ap, arith, drop, length, length-drop, take, take_all, flat_map}
-use Rattle.source_folder.specs.declared.folder.NamedText.{NamedText}
-use Rattle.source_search.specs.Searching.{AsksFor, sources_of, texts_in}
-use Rattle.source_search.specs.Wanted.{named_bytes}
-use Rattle.source_search.proofs.Rounds.{Lists, round_closed, round_searched}
+use Rattle.source_search.proofs.Common.{length-map, ◌≡◌, ◌∙◌, ◌-◌, List, ap, arith, drop, length, length-drop, take, take_all, flat_map, NamedText, AsksFor, sources_of, texts_in, named_bytes}
+use Rattle.source_search.proofs.Asking.{Lists, round_closed, round_searched}
 use Rattle.source_search.proofs.search.Search.complete.Goals as goal
 
 pub loop-done-preserved : goal.loop-done-preserved

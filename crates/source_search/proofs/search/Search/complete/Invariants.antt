@@ -1,6 +1,4 @@
-use Rattle.std.proofs.Common.{◌-◌, All, List, take}
-use Rattle.source_search.specs.Searching.{IsClosed, IsSearch, is_asked, sources_of}
-use Rattle.source_search.specs.Wanted.{Named}
+use Rattle.source_search.proofs.Common.{◌-◌, All, List, take, IsClosed, IsSearch, is_asked, sources_of, Named}
 use Rattle.source_search.proofs.search.Search.complete.Given as goal
 
 abbrev pub invariant-loop-done : goal.invariant-loop-done

@@ -1,9 +1,6 @@
-use Rattle.std.proofs.Common.{◌∙◌, List, ap, arith, take_all}
-use Rattle.std.specs.BTreeSet.{contains_text}
-use Rattle.source_folder.specs.Folder.{name_of, names_of}
-use Rattle.source_folder.specs.declared.folder.NamedText.{NamedText}
+use Rattle.source_search.proofs.Common.{◌∙◌, List, ap, arith, take_all, contains_text, name_of, names_of, NamedText}
 use Rattle.source_search.proofs.Asking.{put_name}
-use Rattle.source_search.proofs.Starting.{among_more, is_among, started}
+use Rattle.source_search.proofs.Naming.{among_more, is_among, started}
 use Rattle.source_search.proofs.search.Search.new.Goals as goal
 
 pub loop-source-preserved : goal.loop-source-preserved

@@ -1,7 +1,5 @@
-use Rattle.std.proofs.Common.{◌≡◌, ℕ, List, take}
-use Rattle.std.specs.BTreeSet.{contains_text}
-use Rattle.source_folder.specs.Folder.{names_of}
-use Rattle.source_search.proofs.Starting.{is_among}
+use Rattle.source_search.proofs.Common.{◌≡◌, ℕ, List, take, contains_text, names_of}
+use Rattle.source_search.proofs.Naming.{is_among}
 use Rattle.source_search.proofs.search.Search.new.Given as goal
 
 abbrev pub invariant-loop-source : goal.invariant-loop-source

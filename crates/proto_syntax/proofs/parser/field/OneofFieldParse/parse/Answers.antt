@@ -1,5 +1,4 @@
-use Rattle.std.proofs.Common.{arith}
-use Rattle.std.proofs.lemmas.Grind.{common_steps}
+use Rattle.proto_syntax.proofs.Common.{arith, common_steps}
 use Rattle.proto_syntax.specs.Language.{member}
 use Rattle.proto_syntax.proofs.parser.field.OneofFieldParse.parse.Goals as goal
 
