@@ -7,6 +7,7 @@ use crate::content_type::is_grpc_web;
 use crate::target::is_reflection;
 use proto_compile::Compiled;
 use reflect_core::{Mode, answer_body, response_without_replies};
+use reflect_requests::Status;
 use share_work::{Gate, Plan};
 use std::alloc::{AllocError, AllocGlobal, Global};
 use std::thread::Threads;
@@ -18,9 +19,6 @@ pub struct HttpAnswer {
     pub headers: Vec<(&'static str, &'static str)>,
     pub body: Vec<u8>,
 }
-
-/// The status of gRPC for a service or method that is not known.
-const UNIMPLEMENTED: u8 = 12;
 
 fn is_post(method: &str) -> bool
     ensures { IsTrue result ↔ (method.now ≡ codes "POST") }
@@ -105,7 +103,8 @@ where
 {
     let alloc = rt.alloc();
     if !is_reflection(target) {
-        return in_frames(alloc, response_without_replies(alloc, UNIMPLEMENTED)?);
+        let status = Status::Unimplemented.number();
+        return in_frames(alloc, response_without_replies(alloc, status)?);
     }
     if !is_post(method) {
         return not_allowed(alloc);

@@ -19,7 +19,7 @@ use crate::repeats::first_text_twice;
 use crate::service::service_fault;
 use crate::settings::statement_settings_fault;
 use proto_base::{Kind, Limits, Place, Spot, lesser};
-use proto_desc::file::{FileDesc, ImportDesc, PackageDesc};
+use proto_desc::file::{FileDesc, ImportDesc};
 use proto_desc::rules::Element;
 use proto_tree::text::joined;
 use proto_tree::{FileTree, Statement, Syntax};
@@ -89,19 +89,16 @@ fn names_fault(alloc: Global, desc: &FileDesc) -> Result<Option<Spot>, AllocErro
 }
 
 /// The length of the scope of what stands at the top of a file.
-fn scope_len(declared: &Option<PackageDesc>) -> usize
-    ensures { result ≡ capped (file_scope declared.now) }
+fn scope_len(desc: &FileDesc) -> usize
+    ensures { result ≡ capped (file_scope desc.now.«package») }
 {
-    match declared {
-        Some(package) => package.name.as_str().len(),
-        None => 0,
-    }
+    desc.scope().len()
 }
 
 fn declared_lengths_fault(limits: &Limits, desc: &FileDesc) -> Option<Spot>
     ensures { IsLeast (Each (declared_by desc.now) (IsTooLong limits.now)) result }
 {
-    let len = scope_len(&desc.package);
+    let len = scope_len(desc);
     let messages = first_length_fault(limits, len, desc.messages.as_slice());
     let enums = first_length_fault(limits, len, desc.enums.as_slice());
     let services = first_length_fault(limits, len, desc.services.as_slice());

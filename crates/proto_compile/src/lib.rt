@@ -20,5 +20,6 @@ pub use compiled::Compiled;
 pub use compiling::{compile, compile_by};
 pub use error::CompileError;
 pub use laws::compiling_is_unique;
+pub use set::FILE_FIELD;
 pub use source::Source;
 pub use workers::Leftovers;

@@ -9,7 +9,7 @@ use std::alloc::{AllocError, Global};
 use wire_format::{FieldValue, field_len, put_field};
 
 /// The number of the field `file` of a `FileDescriptorSet`.
-const FILE: u32 = 1;
+pub const FILE_FIELD: u32 = 1;
 
 /// How many bytes the set has, where these are at most so many.
 pub(crate) fn set_len(files: &FileTable, links: &Links, most: u64) -> Option<u64>
@@ -20,7 +20,7 @@ pub(crate) fn set_len(files: &FileTable, links: &Links, most: u64) -> Option<u64
 {
     let mut len = 0;
     for file in links.set_order() {
-        len += field_len(FILE, &FieldValue::Delimited(files.bytes(*file)));
+        len += field_len(FILE_FIELD, &FieldValue::Delimited(files.bytes(*file)));
         if len > most {
             return None;
         }
@@ -40,7 +40,11 @@ pub(crate) fn set_bytes(
 {
     let mut out = Vec::with_capacity(alloc, room)?;
     for file in links.set_order() {
-        put_field(&mut out, FILE, &FieldValue::Delimited(files.bytes(*file)))?;
+        put_field(
+            &mut out,
+            FILE_FIELD,
+            &FieldValue::Delimited(files.bytes(*file)),
+        )?;
     }
     Ok(out)
 }

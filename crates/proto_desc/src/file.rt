@@ -1,5 +1,8 @@
 //! Files (`FileDescriptorProto`).
 
+ghost use Rattle.std.specs.Prelude.{◌≡◌};
+ghost use Rattle.proto_desc.specs.DeclaredNames.{file_scope};
+
 use crate::enumeration::EnumDesc;
 use crate::message::MessageDesc;
 use crate::options::OptionDesc;
@@ -33,4 +36,16 @@ pub struct FileDesc<'s> {
     pub enums: Row<EnumDesc<'s>>,
     pub services: Row<ServiceDesc<'s>>,
     pub options: Row<OptionDesc<'s>>,
+}
+
+impl FileDesc<'_> {
+    /// The scope of what stands at the top of the file: the name of its package, or nothing.
+    pub fn scope(&self) -> &str
+        ensures { result.now ≡ file_scope self.now.«package» }
+    {
+        match &self.package {
+            Some(package) => package.name.as_str(),
+            None => "",
+        }
+    }
 }

@@ -221,11 +221,7 @@ fn put_file(
     ensures { OnOk result (entries.new ≡ entries.old ++ occurrences_of file desc.now) }
 {
     put_package(entries, file, &desc.package)?;
-    let scope = match &desc.package {
-        Some(package) => Scope::new(package.name.as_str()),
-        None => Scope::top(),
-    };
-    put_declared(alloc, entries, file, scope, desc)
+    put_declared(alloc, entries, file, Scope::new(desc.scope()), desc)
 }
 
 /// The occurrences in files, the first of which has this position, or none where they are more than the limit. They are

@@ -23,7 +23,7 @@ pub(crate) struct PackageFiles<'p> {
 
 /// Where the entries of a package begin, and how many there are.
 #[derive(Drop)]
-struct Run {
+struct PackageRun {
     start: usize,
     len: usize,
 }
@@ -31,7 +31,7 @@ struct Run {
 /// The packages that many files have, in the order of their entries, and a row for each in which its files are set.
 #[derive(Drop)]
 pub(crate) struct Packages {
-    runs: Vec<Run>,
+    runs: Vec<PackageRun>,
     files: BitMatrix,
 }
 
@@ -83,7 +83,7 @@ impl Packages {
     {
         self.files.push_row()?;
         insert_files(&mut self.files, self.runs.len(), names);
-        self.runs.push(Run {
+        self.runs.push(PackageRun {
             start,
             len: names.len(),
         })?;
@@ -118,7 +118,7 @@ impl Packages {
             → IsPackageOf (take len (drop start os)) p.files.now p.row) }
     {
         let found = self.runs.binary_search_by(
-            |run: &Run| -> Ordering
+            |run: &PackageRun| -> Ordering
                 ensures { result ≡ nat_cmp run.now.start start }
             { run.start.cmp(&start) },
         );

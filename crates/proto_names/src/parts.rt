@@ -9,7 +9,7 @@ use crate::collected::Collected;
 use crate::entries::Entries;
 use crate::part::Part;
 use proto_desc::file::FileDesc;
-use share_work::{ItemWork, NoGate, Plan, each_in_shares};
+use share_work::{ItemWork, NoGate, Plan, UNGATED, each_in_shares};
 use std::alloc::{AllocError, AllocGlobal, Global};
 use std::thread::Threads;
 
@@ -76,7 +76,7 @@ where
         unreachable!()
     };
     let work = Collecting { limit };
-    each_in_shares(rt, plan, 0, &NoGate, parts, &work)
+    each_in_shares(rt, plan, UNGATED, &NoGate, parts, &work)
 }
 
 /// The occurrences in each part, or none where all of them are more than the limit.

@@ -12,7 +12,7 @@ use crate::share::Share;
 use crate::sorted::{SortedShare, sort_share};
 use crate::threading::Threading;
 use proto_desc::file::FileDesc;
-use share_work::{FEWEST_SHARED, ItemWork, NoGate, Plan, each_in_shares};
+use share_work::{FEWEST_SHARED, ItemWork, NoGate, Plan, UNGATED, each_in_shares};
 use std::alloc::{AllocError, AllocGlobal, Global};
 use std::sync::Arc;
 use std::thread::Threads;
@@ -81,7 +81,7 @@ where
         files,
     };
     let shares = all_shares(rt.alloc(), THREADS)?;
-    each_in_shares(rt, plan, 0, &NoGate, &shares, &work)
+    each_in_shares(rt, plan, UNGATED, &NoGate, &shares, &work)
 }
 
 /// The occurrences in files, in shares that are sorted by threads, or none where they are more than the limit.

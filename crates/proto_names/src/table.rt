@@ -25,7 +25,7 @@ use std::marker::Model;
 
 /// The entries of one name. Where these are a package's, and many, it has the package's files.
 #[derive(Drop)]
-pub(crate) struct Named<'t> {
+pub(crate) struct NameEntries<'t> {
     pub(crate) names: Names<'t>,
     pub(crate) files: Option<PackageFiles<'t>>,
 }
@@ -82,7 +82,7 @@ impl EntryTable {
     }
 
     /// The entries of the name in a scope, which has this hash.
-    pub(crate) fn named(&self, scope: Scope, hash: u32, name: &str) -> Named<'_>
+    pub(crate) fn named(&self, scope: Scope, hash: u32, name: &str) -> NameEntries<'_>
         requires hash { hash ≡ hash_of (scoped scope.text.now name.now) }
         ensures found { (o : Occurrence) → Contains result.names o
             → Contains self.now o × (o.name ≡ scoped scope.entry.text.now name.now) }
@@ -101,7 +101,7 @@ impl EntryTable {
     }
 
     /// The entries of the name in a scope, which has this hash, or none where no scope has this name.
-    pub(crate) fn scopes_named(&self, scope: Scope, hash: u32, name: &str) -> Named<'_>
+    pub(crate) fn scopes_named(&self, scope: Scope, hash: u32, name: &str) -> NameEntries<'_>
         requires hash { hash ≡ hash_of (scoped scope.text.now name.now) }
         ensures found { (o : Occurrence) → Contains result.names o
             → Contains self.now o × (o.name ≡ scoped scope.entry.text.now name.now) }
@@ -113,7 +113,7 @@ impl EntryTable {
         if self.scopes.tells(hash) {
             self.named(scope, hash, name)
         } else {
-            Named {
+            NameEntries {
                 names: self.entries.names().take(0),
                 files: None,
             }
@@ -147,7 +147,7 @@ fn entries_named<'e>(
     scope: Scope,
     hash: u32,
     name: &str,
-) -> Named<'e>
+) -> NameEntries<'e>
     requires hash { hash ≡ hash_of (scoped scope.text.now name.now) }
     requires order { AreInOrder names.now }
     requires starts { AreStarts names.now starts.now.counts.items }
@@ -161,9 +161,9 @@ fn entries_named<'e>(
             let behind = names.skip(start);
             let names = behind.take(run_length(&behind, scope.text, name));
             let files = packages.files_of(start, names.len());
-            Named { names, files }
+            NameEntries { names, files }
         }
-        None => Named {
+        None => NameEntries {
             names: names.take(0),
             files: None,
         },

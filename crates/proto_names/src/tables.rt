@@ -9,7 +9,7 @@ ghost use Rattle.proto_names.specs.Resolution.{is_scope};
 ghost use Rattle.proto_names.specs.Shares.{AreInShares, all_of};
 
 use crate::scope::Scope;
-use crate::table::{EntryTable, Named};
+use crate::table::{EntryTable, NameEntries};
 use std::marker::Model;
 
 /// The tables of all shares, in their order. Contracts see them as the occurrences in all of them.
@@ -49,7 +49,7 @@ impl Tables {
     }
 
     /// The entries of the name in a scope.
-    pub(crate) fn named(&self, scope: Scope, name: &str) -> Named<'_>
+    pub(crate) fn named(&self, scope: Scope, name: &str) -> NameEntries<'_>
         ensures found { (o : Occurrence) → Contains result.names o
             → Contains self.now o × (o.name ≡ scoped scope.entry.text.now name.now) }
         ensures all { (o : Occurrence) → Contains self.now o
@@ -61,7 +61,7 @@ impl Tables {
     }
 
     /// The entries of the name in a scope, or none where no scope has this name.
-    pub(crate) fn scopes_named(&self, scope: Scope, name: &str) -> Named<'_>
+    pub(crate) fn scopes_named(&self, scope: Scope, name: &str) -> NameEntries<'_>
         ensures found { (o : Occurrence) → Contains result.names o
             → Contains self.now o × (o.name ≡ scoped scope.entry.text.now name.now) }
         ensures scopes { (o : Occurrence) → Contains self.now o

@@ -11,7 +11,7 @@ use crate::names::Names;
 
 /// The entries of one name before a position: where they begin, and whether one of them is no package.
 #[derive(Clone, Copy)]
-struct Run {
+struct NameRun {
     start: usize,
     has_element: bool,
 }
@@ -28,12 +28,12 @@ pub(crate) fn continues(names: &Names, position: usize) -> bool
 }
 
 /// The run with what stands at its end.
-fn run_with(names: &Names, run: Run, position: usize) -> Run
+fn run_with(names: &Names, run: NameRun, position: usize) -> NameRun
     requires position { position < length names.now }
     requires run { IsRun names.now position position run.start run.has_element }
     ensures { IsRun names.now position (position + 1) result.start result.has_element }
 {
-    Run {
+    NameRun {
         start: run.start,
         has_element: run.has_element || names.kind(position).is_some(),
     }
@@ -41,7 +41,7 @@ fn run_with(names: &Names, run: Run, position: usize) -> Run
 
 /// The run of what stands at a position, up to that position, by the run of what stands before. Most names stand alone, and
 /// no kind of these is read.
-fn run_at(names: &Names, last: Run, position: usize) -> Run
+fn run_at(names: &Names, last: NameRun, position: usize) -> NameRun
     requires order { AreInOrder names.now }
     requires position { position < length names.now }
     requires last { 0 < position → IsRun names.now (position - 1) (position - 1) last.start
@@ -51,7 +51,7 @@ fn run_at(names: &Names, last: Run, position: usize) -> Run
     if continues(names, position) {
         run_with(names, last, position - 1)
     } else {
-        Run {
+        NameRun {
             start: position,
             has_element: false,
         }
@@ -60,7 +60,7 @@ fn run_at(names: &Names, last: Run, position: usize) -> Run
 
 /// Whether what stands at a position repeats a name, by the run before it: a package repeats the name of what is no
 /// package, all else the name of anything.
-fn is_twice(names: &Names, run: Run, position: usize) -> bool
+fn is_twice(names: &Names, run: NameRun, position: usize) -> bool
     requires position { position < length names.now }
     requires run { IsRun names.now position position run.start run.has_element }
     ensures { IsTrue result ↔ Repeats names.now position }
@@ -85,7 +85,7 @@ pub(crate) fn first_twice(names: &Names) -> Option<Location>
         (λ location. IsFirstTwice names.now location.file location.place) }
 {
     let mut first = None;
-    let mut run = Run {
+    let mut run = NameRun {
         start: 0,
         has_element: false,
     };

@@ -8,7 +8,7 @@ ghost use Rattle.proto_names.specs.Runs.{at};
 ghost use Rattle.proto_names.specs.Steps.{HasNoType, HasOneIn, IsTypeAmong, fits};
 
 use crate::names::Names;
-use crate::table::Named;
+use crate::table::NameEntries;
 use proto_desc::name_kind::NameKind;
 use proto_links::{FileId, Links};
 
@@ -62,7 +62,7 @@ fn sees_entry(links: &Links, file: FileId, role: Role, names: &Names) -> bool
 
 /// Whether a file sees one of the entries of a name, of a kind that fits. A package that many files have is known by
 /// these, and no entry of it is looked at.
-pub(crate) fn sees_one(links: &Links, file: FileId, role: Role, named: &Named) -> bool
+pub(crate) fn sees_one(links: &Links, file: FileId, role: Role, named: &NameEntries) -> bool
     requires file { file < count_of links.now }
     requires entries { All (λ o. o.file < count_of links.now) named.now.names }
     requires files { IfSome named.now.files (λ p. IsPackageOf named.now.names p.files.now p.row) }
@@ -75,7 +75,7 @@ pub(crate) fn sees_one(links: &Links, file: FileId, role: Role, named: &Named) -
 }
 
 /// The kind of the type that a file sees among the entries of a name.
-pub(crate) fn type_among(links: &Links, file: FileId, named: &Named) -> Option<NameKind>
+pub(crate) fn type_among(links: &Links, file: FileId, named: &NameEntries) -> Option<NameKind>
     requires file { file < count_of links.now }
     requires entries { All (λ o. o.file < count_of links.now) named.now.names }
     requires files { IfSome named.now.files (λ p. IsPackageOf named.now.names p.files.now p.row) }

@@ -2,7 +2,6 @@
 //! place is found.
 
 ghost use Rattle.std.specs.Prelude.{◌≡◌, ◌<◌, flat_map, IfOk, OnOk};
-ghost use Rattle.proto_desc.specs.DeclaredNames.{file_scope};
 ghost use Rattle.proto_links.specs.Linked.{count_of};
 ghost use Rattle.proto_names.specs.Resolution.{SeenBy};
 ghost use Rattle.proto_types.specs.References.{reference_to, references_of_type, references_of_field, references_by_message, references_of_method, references_of_service, references};
@@ -14,7 +13,7 @@ use crate::meaning::{Meaning, meaning_of};
 use crate::recalled::{Recalled, recalled_as, remember};
 use proto_base::{Kind, Place, Spot};
 use proto_desc::field::{FieldDesc, FieldKind};
-use proto_desc::file::{FileDesc, PackageDesc};
+use proto_desc::file::FileDesc;
 use proto_desc::message::MessageDesc;
 use proto_desc::name_kind::NameKind;
 use proto_desc::options::OptionDesc;
@@ -23,16 +22,6 @@ use proto_desc::type_name::TypeReference;
 use proto_links::{FileId, Links};
 use proto_names::{FoundType, NameIndex, Want, name_in};
 use std::alloc::{AllocError, Global};
-
-/// The scope of what stands at the top of a file.
-fn file_scope<'d>(declared: &'d Option<PackageDesc>) -> &'d str
-    ensures { result.now ≡ file_scope declared.now }
-{
-    match declared {
-        Some(package) => package.name.as_str(),
-        None => "",
-    }
-}
 
 /// What a name means of which this was found, where such a type is wanted, with these options.
 fn meaning_by(
@@ -266,7 +255,7 @@ impl<'i> Finder<'i> {
         ensures { OnOk result (Finds self.now.index.now.occurrences
             (SeenBy self.now.links.now self.now.file) (references file.now) found.old found.new) }
     {
-        let scope = file_scope(&file.package);
+        let scope = file.scope();
         self.messages(scope, file.messages.as_slice(), found)?;
         self.services(scope, file.services.as_slice(), found)
     }

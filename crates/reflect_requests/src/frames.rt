@@ -14,14 +14,14 @@ use wire_format::WireError;
 
 /// The status of a stream, as gRPC names them.
 #[derive(Clone, Copy)]
-enum Status {
+pub enum Status {
     /// The body ends where a frame would begin.
     Ok = 0,
     /// A message is no well-formed request.
     InvalidArgument = 3,
     /// The body, a message or the number of requests is over its limit.
     ResourceExhausted = 8,
-    /// A frame is compressed.
+    /// A frame is compressed, or the service or method is not known.
     Unimplemented = 12,
     /// A frame is cut short, or its flag is unknown.
     Internal = 13,
@@ -29,7 +29,7 @@ enum Status {
 
 impl Status {
     /// The number that the trailer tells.
-    fn number(self) -> u8
+    pub fn number(self) -> u8
         ensures { result ≡ status_number self }
     {
         self as u8

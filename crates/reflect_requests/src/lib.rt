@@ -6,5 +6,5 @@
 mod frames;
 mod request;
 
-pub use frames::{Frames, Message, Stream, frames_are_unique, read_frames, read_stream};
+pub use frames::{Frames, Message, Status, Stream, frames_are_unique, read_frames, read_stream};
 pub use request::{Ask, Request, read_request, requests_are_unique};

@@ -1,4 +1,4 @@
-//! The commands but `serve`: what each reads, and what it writes.
+//! The commands but `serve` and `check`: what each reads, and what it writes.
 
 ghost use Rattle.std.specs.Prelude.{◌-◌, ◌<◌, ◌^◌, [], ◌∷◌, IfErr, IfOk, string_bytes};
 ghost use Rattle.proto_compile.specs.Compilation.{set_of};

@@ -9,14 +9,14 @@ ghost use Rattle.wire_format.specs.Field.{bytes_field};
 ghost use Rattle.wire_format.specs.Varint.{varint_bytes};
 
 use grpcweb_core::{CountedWrite, write_bytes};
-use proto_compile::Compiled;
+use proto_compile::{Compiled, FILE_FIELD};
 use schema_failure::Failure;
 use std::alloc::{AllocError, Global};
 use std::io::{self, Write};
 use wire_format::put_varint;
 
-/// The tag of `file`, field 1 of a `FileDescriptorSet`, with wire type 2.
-const TAG: u64 = 10;
+/// The tag of the field `file` of a `FileDescriptorSet`, with wire type 2.
+const TAG: u64 = FILE_FIELD as u64 * 8 + 2;
 
 /// The most bytes of a head: a tag of one, and a length of at most ten.
 const MOST_HEAD: usize = 11;

@@ -9,7 +9,7 @@ ghost use Rattle.schema_sources.specs.Texts.{AreTextsOf};
 
 use crate::folder::SourceFolder;
 use proto_base::Limits;
-use share_work::{ItemWork, NoGate, Plan, each_in_shares};
+use share_work::{ItemWork, NoGate, Plan, UNGATED, each_in_shares};
 use source_folder::{FolderFault, NamedText};
 use std::alloc::{AllocError, AllocGlobal, Global};
 use std::thread::Threads;
@@ -76,7 +76,7 @@ where
         limits: *limits,
     };
     let plan = plan.evened(names.len());
-    each_in_shares(rt, plan, 0, &NoGate, names, &work)
+    each_in_shares(rt, plan, UNGATED, &NoGate, names, &work)
 }
 
 /// The sources, or the first fault.

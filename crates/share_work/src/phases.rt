@@ -1,5 +1,8 @@
 //! The phases of this program's work in shares, in their order: what a gate is told of each piece.
 
+/// Work of which no gate is told.
+pub const UNGATED: u8 = 0;
+
 /// The compiler and `check` take each source by itself.
 pub const DESCRIBING: u8 = 1;
 

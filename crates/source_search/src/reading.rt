@@ -6,7 +6,7 @@ ghost use Rattle.source_search.specs.Searching.{SourceImports};
 
 use crate::imports::imports_of;
 use proto_base::Limits;
-use share_work::{ItemWork, NoGate, Plan, each_in_shares};
+use share_work::{ItemWork, NoGate, Plan, UNGATED, each_in_shares};
 use source_folder::NamedText;
 use std::alloc::{AllocError, AllocGlobal, Global};
 use std::thread::Threads;
@@ -50,5 +50,5 @@ where
 {
     let work = Reading { limits: *limits };
     let plan = plan.evened(sources.len());
-    each_in_shares(rt, plan, 0, &NoGate, sources, &work)
+    each_in_shares(rt, plan, UNGATED, &NoGate, sources, &work)
 }

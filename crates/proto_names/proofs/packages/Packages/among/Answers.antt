@@ -1,5 +1,5 @@
 use Rattle.proto_names.proofs.Common.{common_steps, ◌≡◌, ap, refl, ℕ, ◌+◌, ◌<◌, ◌≤◌, List, length, take, drop, inl, inr, arith, length-drop, length-take-le, cases_lt, get_or_append_left, get_or_push, length_push, Bits, has, columns_of, Occurrence, ArePackagesOf, HasPackagePut, IsPackageOf, occurrences_in, run_at}
-use Rattle.proto_names.specs.declared.packages.Run.{Run}
+use Rattle.proto_names.specs.declared.packages.PackageRun.{PackageRun}
 use Rattle.proto_names.proofs.packages.Packages.among.Goals as goal
 use Rattle.proto_names.proofs.packages.Packages.among.Goals.{then-len-gt-FEW+then-are_packages+in_ok-push, else-len-gt-FEW}
 
@@ -8,7 +8,7 @@ same_package : (os : List Occurrence) (old new : Bits) (k : ℕ) → old.rows �
     → ((c : ℕ) → c < columns_of old → has new k c ≡ has old k c) → IsPackageOf os old k → IsPackageOf os new k
 same_package os old new k more width kept is = grind (arith, common_steps)
 
-module _ (os : List Occurrence) (start len : ℕ) (runs new_runs : List Run) (old new : Bits)
+module _ (os : List Occurrence) (start len : ℕ) (runs new_runs : List PackageRun) (old new : Bits)
     (within : start + len ≤ length os)
     (are : ArePackagesOf os runs old) (put : HasPackagePut (take len (drop start os)) start runs old new_runs new) where
   each : (k : ℕ) → k < length new_runs → IsPackageOf (occurrences_in os (run_at new_runs k)) new k
@@ -17,13 +17,13 @@ module _ (os : List Occurrence) (start len : ℕ) (runs new_runs : List Run) (ol
         (same_package _ old new k (omega arith) put.width (λ c. put.kept k c (omega arith)) (are.each k before))
     | inr last ↦
         let size = ap length put.longer in
-        let at : k ≡ length runs = omega (arith, size, length_push {X = Run}) in
+        let at : k ≡ length runs = omega (arith, size, length_push {X = PackageRun}) in
         let named = length-take-le len (drop start os) (omega (arith, length-drop start os)) in
         rw (at, put.longer, get_or_push runs _ _ (length runs) refl, named, ← are.rows) put.put
   ]
 
   packages_more : ArePackagesOf os new_runs new
-  packages_more = record { rows = rw put.longer (omega (arith, length_push {X = Run})); each = each }
+  packages_more = record { rows = rw put.longer (omega (arith, length_push {X = PackageRun})); each = each }
 
 pub loop-start-preserved : goal.loop-start-preserved
 loop-start-preserved c =
