@@ -1,14 +1,13 @@
 -- Bytes that are read or written piece by piece.
-use Rattle.std.proofs.Common.{◌≡◌, ℕ, ◌+◌, ◌-◌, ◌<◌, ◌≤◌, List, [], ◌∷◌, ◌++◌, length, ap, arith, refl, inr, take, drop, Some, append_assoc, append-nil, length-append, length-drop, length-take-le, take_all}
+use Rattle.std.proofs.Common.{◌≡◌, ℕ, ◌+◌, ◌-◌, ◌<◌, ◌≤◌, List, [], ◌∷◌, ◌++◌, length, ap, arith, take, drop, Some, append_assoc, append-nil, length-append, length-drop, length-take-le}
 use Rattle.std.specs.Io.KnownBytes.{Appends, Consumes}
 use Rattle.std.proofs.lemmas.List.{drop_all}
 use Rattle.std.proofs.lemmas.Bool.Decides.{nat_tests}
-use Rattle.std.proofs.KnownBytes.{Appends-kept, Appends-trans, Consumes-trans}
-use Rattle.std.proofs.Math.Seq.{take-add, take-append-add, take-append_seam}
+use Rattle.std.proofs.KnownBytes.{Appends-trans, Consumes-trans}
+use Rattle.std.proofs.Math.Seq.{take-add, take-append-add}
 use borrow.Rule.Slice.PartMut.{put_mid}
-use Rattle.grpcweb_core.specs.Exchange.{IsRead, IsWritten}
 use Rattle.grpcweb_core.specs.Streams.{Call, Reads, Writes}
-use Rattle.grpcweb_core.specs.Calls.{IsGiven, IsTaken, IsHandedOn}
+use Rattle.grpcweb_core.specs.Calls.{IsGiven, IsTaken}
 
 -- ---- reading
 
@@ -37,30 +36,6 @@ read_more old now new room sub filled n so short some once =
       left = rw prefix (Consumes-trans old.left now.left new.left _ _ so.left once.left);
     }
 
-pub read_none : (old now new : Reads) (room sub : List ℕ) (filled : ℕ) → IsReading old now room filled
-    → 0 < length sub → IsGiven now new sub 0
-    → IsRead (length (take filled room ++ sub)) old new (take filled (take filled room ++ sub))
-read_none old now new room sub filled so some once =
-    let call : Call = record { room = length sub; given = Some 0 } in
-    let prefix = rw (length-take-le filled room so.within) at (take-append_seam (take filled room) sub) in
-    record {
-      own = so.own ++ call ∷ [];
-      calls = cc (append_assoc old.calls so.own (call ∷ []));
-      given = cc (prefix, append-nil now.bytes);
-      within = omega (arith, length-append (take filled room) sub, ap length prefix);
-      whole = inr (record {
-        earlier = so.own;
-        last = call;
-        called = refl;
-        room = some;
-        nothing = refl;
-        known = once.ended refl some;
-      });
-      failures = (cc);
-      left = rw (prefix, ← append-nil (take filled room))
-          (Consumes-trans old.left now.left new.left _ [] so.left once.left);
-    }
-
 -- a room whose end was written anew
 pub put_end : (room sub : List ℕ) (filled : ℕ) → filled ≤ length room
     → put_mid filled (length room - filled) room sub ≡ take filled room ++ sub
@@ -87,15 +62,4 @@ written_some old now new response written n {rest = rest} so some is short once 
       taken = cc (more, append_assoc old.bytes (take written response) (take n rest));
       failures = grind (arith, nat_tests, so.failures, once.failures);
       contents = rw more (Appends-trans old.contents now.contents new.contents _ _ so.contents once.contents);
-    }
-
-pub flushed : (old now new : Writes) (response : List ℕ) (written : ℕ) → IsWriting old now response written
-    → length response ≤ written → IsHandedOn now new → IsWritten old new response
-flushed old now new response written so whole once =
-    let all = take_all written response whole in
-    record {
-      taken = (cc);
-      flushed = once.unflushed;
-      failures = (cc);
-      contents = rw all at (Appends-kept old.contents now.contents new.contents _ so.contents once.contents);
     }

@@ -74,9 +74,6 @@ placed_locally limits sources first faults least pass all f inside =
       short = omega (arith, own.1, bound);
     }
 
-pub placed_none : (sources : List Source) → ArePlaced sources []
-placed_none sources f inside = absurd (none_in f inside)
-
 -- what was found, where something was
 pub first_is : (limits : Limits) (sources : List Source) (found : Option Fault) (first : Fault)
     → IsFirst limits sources found → found ≡ Some first → IsFirst limits sources (Some first)
