@@ -9,7 +9,8 @@ use crate::collected::Collected;
 use crate::entries::Entries;
 use crate::part::Part;
 use proto_desc::file::FileDesc;
-use share_work::{ItemWork, NoGate, Plan, UNGATED, each_in_shares};
+use share_work::phases::UNGATED;
+use share_work::{ItemWork, NoGate, Plan, each_in_shares};
 use std::alloc::{AllocError, AllocGlobal, Global};
 use std::thread::Threads;
 

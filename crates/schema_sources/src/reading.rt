@@ -9,7 +9,8 @@ ghost use Rattle.schema_sources.specs.Texts.{AreTextsOf};
 
 use crate::folder::SourceFolder;
 use proto_base::Limits;
-use share_work::{ItemWork, NoGate, Plan, UNGATED, each_in_shares};
+use share_work::phases::UNGATED;
+use share_work::{ItemWork, NoGate, Plan, each_in_shares};
 use source_folder::{FolderFault, NamedText};
 use std::alloc::{AllocError, AllocGlobal, Global};
 use std::thread::Threads;

@@ -6,7 +6,8 @@ ghost use Rattle.source_search.specs.Searching.{SourceImports};
 
 use crate::imports::imports_of;
 use proto_base::Limits;
-use share_work::{ItemWork, NoGate, Plan, UNGATED, each_in_shares};
+use share_work::phases::UNGATED;
+use share_work::{ItemWork, NoGate, Plan, each_in_shares};
 use source_folder::NamedText;
 use std::alloc::{AllocError, AllocGlobal, Global};
 use std::thread::Threads;
