@@ -6,7 +6,7 @@ use Rattle.proto_syntax.specs.declared.error.ParseError.{ParseError}
 use Rattle.proto_syntax.specs.declared.error.ParseError.TheVariants.{NoMemory, At}
 use Rattle.proto_tree.specs.declared.file.FileTree.{FileTree}
 use Rattle.proto_syntax.specs.Told.{IsFaultOf, IsPlacedWithin, LieWithin, place_of_token}
-use Rattle.proto_syntax.proofs.Spellings.{spelling_at}
+use Rattle.proto_syntax.proofs.Steps.{spelling_at}
 use Rattle.proto_syntax.proofs.Prefix.{one_fault}
 
 pub one_kind : (ts : List Spelled) (k : ℕ) (a b : Kind) → IsKindOf ts k a → IsKindOf ts k b → a ≡ b

@@ -8,12 +8,12 @@ use Rattle.proto_syntax.specs.declared.parser.item.ItemKind.{ItemKind}
 use Rattle.proto_syntax.specs.declared.parser.item.ItemKind.TheVariants as kind
 use Rattle.proto_syntax.specs.declared.parser.stop.Stop.{Stop}
 use Rattle.proto_syntax.specs.declared.parser.stop.Stop.TheVariants as stop
-use Rattle.proto_syntax.specs.Grammar.{Class, OneOf, Symbol, Grammar, One, ◌∣◌, Tree, Pair}
+use Rattle.proto_syntax.specs.Grammar.{Class, OneOf, Symbol, Grammar, ◌∣◌, Tree, Pair}
 use Rattle.proto_syntax.specs.Language.{enum, option, oneof, reserved, map_or_field, symbol, field}
 use Rattle.std.specs.Str.{byte}
 use Prim.Native.String.{String}
 use Rattle.proto_syntax.specs.Trees.{row, symbol_tree}
-use Rattle.proto_syntax.specs.Reading.{Outcome, Read, Stops, read, next_fits}
+use Rattle.proto_syntax.specs.Reading.{Outcome, Read, Stops, begins, read, next_fits}
 use Rattle.proto_tokens.specs.declared.token.Tokens.{Tokens}
 use Rattle.proto_base.specs.declared.kind.Kind.{Kind}
 use Rattle.proto_base.specs.declared.kind.Kind.TheVariants.{UnexpectedEnd}
@@ -40,11 +40,11 @@ Gives tree (Err e) rest o = Fails e rest o
 abbrev pub Reads : {X : Type 0} → (X → Tree) → Grammar → Result X Stop → List Token → List Token → Type 0
 Reads tree g result old new = Gives tree result new (read g (spellings old))
 
--- A method took the next token, which is of that class, or left it, which is not.
-abbrev pub TakesIf : {X : Type 0} → (X → Tree) → Class → Option X → List Token → List Token → Type 0
-TakesIf tree c None old new = (next_fits (c ∷ []) (spellings old) ≡ false) × (new ≡ old)
-TakesIf tree c (Some x) old new =
-    (next_fits (c ∷ []) (spellings old) ≡ true) × (read (One c) (spellings old) ≡ Read (tree x) (spellings new))
+-- A method took a tree of that grammar, which the next token begins, or nothing, where it does not.
+abbrev pub TakesIf : {X : Type 0} → (X → Tree) → Grammar → Option X → List Token → List Token → Type 0
+TakesIf tree g None old new = (next_fits (begins g) (spellings old) ≡ false) × (new ≡ old)
+TakesIf tree g (Some x) old new =
+    (next_fits (begins g) (spellings old) ≡ true) × (read g (spellings old) ≡ Read (tree x) (spellings new))
 
 -- a statement of a message that is no message
 abbrev pub flat_item : Grammar

@@ -41,8 +41,7 @@ impl<'s> Parse<'s> for EnumItem<'s> {
         if parser.at_keyword("reserved") {
             return Ok(EnumItem::Reserved(parser.reserved()?));
         }
-        if parser.at_symbol(';') {
-            let span = parser.symbol(';')?;
+        if let Some(span) = parser.optional_symbol(';') {
             return Ok(EnumItem::Empty(span));
         }
         Ok(EnumItem::Value(parser.boxed()?))

@@ -52,7 +52,7 @@ fn kind_of(before: Option<&Token>, token: &Token) -> Kind
 }
 
 /// The token before the one with this index.
-#[tactic(auto, using(crate::proofs::Spellings::spelling_at))]
+#[tactic(auto, using(crate::proofs::Steps::spelling_at))]
 fn token_before<'a, 's>(tokens: &'a [Token<'s>], index: usize) -> Option<&'a Token<'s>>
     ensures { option_map (λ t. spelled t.now) result
         ≡ spec.token_before (spellings tokens.now) index }
@@ -67,7 +67,7 @@ fn token_before<'a, 's>(tokens: &'a [Token<'s>], index: usize) -> Option<&'a Tok
 }
 
 /// The kind of a fault at the token with this index, where it is not the depth.
-#[tactic(auto, using(crate::proofs::Spellings::spelling_at))]
+#[tactic(auto, using(crate::proofs::Steps::spelling_at))]
 pub(crate) fn kind_at(tokens: &[Token], index: usize) -> Kind
     ensures { result ≡ gives.kind_at (spellings tokens.now) index }
 {

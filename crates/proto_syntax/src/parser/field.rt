@@ -3,7 +3,7 @@
 ghost use Rattle.proto_syntax.specs.Reading.{read};
 ghost use Rattle.proto_syntax.specs.Language.{declarator, label, field_head, field, map_type, member};
 ghost use Rattle.proto_syntax.specs.Trees.{declarator_tree, label_tree, field_head_tree, field_tree, map_type_tree, member_tree};
-ghost use Rattle.proto_syntax.specs.Gives.{Reads};
+ghost use Rattle.proto_syntax.specs.Gives.{Reads, TakesIf};
 
 use crate::parser::Parser;
 use crate::parser::position::Position;
@@ -28,16 +28,17 @@ impl<'s, 't> Parser<'s, 't> {
         })
     }
 
-    /// The label of a field.
-    fn label(&mut self) -> Result<Label, Stop>
-        ensures { Reads label_tree label result self.old.rest.now self.new.rest.now }
+    /// The label of a field, if there is one.
+    fn label(&mut self) -> Option<Label>
+        ensures { TakesIf label_tree label result self.old.rest.now self.new.rest.now }
     {
-        if self.at_keyword("optional") {
-            let span = self.keyword("optional")?;
-            return Ok(Label::Optional(span));
+        if let Some(span) = self.optional_keyword("optional") {
+            return Some(Label::Optional(span));
         }
-        let span = self.keyword("repeated")?;
-        Ok(Label::Repeated(span))
+        if let Some(span) = self.optional_keyword("repeated") {
+            return Some(Label::Repeated(span));
+        }
+        None
     }
 
     /// The label and the type of a field.
@@ -46,8 +47,7 @@ impl<'s, 't> Parser<'s, 't> {
         ensures { Reads (λ p. field_head_tree p.0 p.1) field_head result self.old.rest.now
             self.new.rest.now }
     {
-        if self.at_keyword("optional") || self.at_keyword("repeated") {
-            let label = self.label()?;
+        if let Some(label) = self.label() {
             let field_type = self.field_type(Position::Labelled)?;
             return Ok((Some(label), field_type));
         }

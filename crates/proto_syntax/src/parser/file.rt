@@ -93,7 +93,7 @@ impl<'s> Parse<'s> for Import<'s> {
     #[tactic(auto, unfolding(crate::specs::Language::import))]
     fn parse(parser: &mut Parser<'s, '_>) -> Result<Self, Stop> {
         let keyword = parser.keyword("import")?;
-        let public = parser.optional_keyword("public")?;
+        let public = parser.optional_keyword("public");
         let (path, semicolon) = parser.closed(';')?;
         Ok(Import {
             keyword,

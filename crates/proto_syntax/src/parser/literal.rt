@@ -1,10 +1,10 @@
 //! Literals and constants (proto3 language specification, "Integer Literals", "String Literals" and "Constant").
 
-ghost use Rattle.proto_syntax.specs.Grammar.{Optional, ◌∣◌};
+ghost use Rattle.proto_syntax.specs.Grammar.{◌∣◌};
 ghost use Rattle.proto_syntax.specs.Reading.{read};
 ghost use Rattle.proto_syntax.specs.Language.{symbol, str, signed, constant_number, constant};
-ghost use Rattle.proto_syntax.specs.Trees.{optional, str_tree, signed_tree, sign_tree, constant_number_tree, constant_tree};
-ghost use Rattle.proto_syntax.specs.Gives.{Reads};
+ghost use Rattle.proto_syntax.specs.Trees.{str_tree, signed_tree, sign_tree, constant_number_tree, constant_tree};
+ghost use Rattle.proto_syntax.specs.Gives.{Reads, TakesIf};
 
 use crate::parser::Parser;
 use crate::parser::rule::{Parse, Peek};
@@ -16,19 +16,17 @@ use proto_tree::{
 
 impl<'s, 't> Parser<'s, 't> {
     /// The sign of a number, if there is one.
-    fn sign(&mut self) -> Result<Option<Sign>, Stop>
-        ensures { Reads (optional sign_tree) (Optional (symbol "-" ∣ symbol "+")) result
-            self.old.rest.now self.new.rest.now }
+    fn sign(&mut self) -> Option<Sign>
+        ensures { TakesIf sign_tree (symbol "-" ∣ symbol "+") result self.old.rest.now
+            self.new.rest.now }
     {
-        if self.at_symbol('-') {
-            let span = self.symbol('-')?;
-            return Ok(Some(Sign::Minus(span)));
+        if let Some(span) = self.optional_symbol('-') {
+            return Some(Sign::Minus(span));
         }
-        if self.at_symbol('+') {
-            let span = self.symbol('+')?;
-            return Ok(Some(Sign::Plus(span)));
+        if let Some(span) = self.optional_symbol('+') {
+            return Some(Sign::Plus(span));
         }
-        Ok(None)
+        None
     }
 
     /// A number with an optional sign.
@@ -37,7 +35,7 @@ impl<'s, 't> Parser<'s, 't> {
         ensures { Reads constant_number_tree constant_number result self.old.rest.now
             self.new.rest.now }
     {
-        let sign = self.sign()?;
+        let sign = self.sign();
         let number = NumberLiteral::parse(self)?;
         Ok(ConstantNumber { sign, number })
     }
@@ -83,7 +81,7 @@ impl<'s> Parse<'s> for SignedNumber {
 
     #[tactic(auto, unfolding(crate::specs::Language::signed))]
     fn parse(parser: &mut Parser<'s, '_>) -> Result<Self, Stop> {
-        let minus = parser.optional_symbol('-')?;
+        let minus = parser.optional_symbol('-');
         let number = NumberLiteral::parse(parser)?;
         Ok(SignedNumber { minus, number })
     }

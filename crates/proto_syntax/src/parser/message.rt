@@ -99,7 +99,7 @@ impl<'s, 't> Parser<'s, 't> {
 
     /// A message of at most that depth, in a box.
     #[cycle(message)]
-    #[tactic(auto, using(crate::proofs::Ways::boxed_gives), unfolding(crate::specs::Language::message))]
+    #[tactic(auto, using(crate::proofs::Steps::boxed_gives), unfolding(crate::specs::Language::message))]
     pub(crate) fn message(&mut self, depth: u64) -> Result<Boxed<Message<'s>>, Stop>
         ensures { Reads message_tree (message depth) result self.old.rest.now self.new.rest.now }
     {

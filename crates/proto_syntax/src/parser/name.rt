@@ -33,8 +33,7 @@ impl<'s, 't> Parser<'s, 't> {
         ensures { Reads named_tree (named_but (excluded_words position)) result self.old.rest.now
             self.new.rest.now }
     {
-        if self.at_symbol('.') {
-            let dot = self.symbol('.')?;
+        if let Some(dot) = self.optional_symbol('.') {
             let name = self.full_name()?;
             return Ok(TypeName {
                 dot: Some(dot),

@@ -40,8 +40,7 @@ impl<'s> Parse<'s> for OneofItem<'s> {
         if parser.at_keyword("option") {
             return parser.boxed().map(OneofItem::Option);
         }
-        if parser.at_symbol(';') {
-            let span = parser.symbol(';')?;
+        if let Some(span) = parser.optional_symbol(';') {
             return Ok(OneofItem::Empty(span));
         }
         parser.boxed().map(OneofItem::Field)

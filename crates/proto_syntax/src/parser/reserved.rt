@@ -22,10 +22,9 @@ impl<'s, 't> Parser<'s, 't> {
             (Optional (word "to" ⨾ (N.rule ∣ word "max"))) result self.old.rest.now
             self.new.rest.now }
     {
-        if !self.at_keyword("to") {
+        let Some(to) = self.optional_keyword("to") else {
             return Ok(None);
-        }
-        let to = self.keyword("to")?;
+        };
         if N::is_next(self) {
             let number = N::parse(self)?;
             return Ok(Some(RangeEnd {
@@ -58,7 +57,7 @@ impl<'s, 't> Parser<'s, 't> {
     }
 
     /// A `reserved` statement, in a box.
-    #[tactic(auto, using(crate::proofs::Ways::boxed_gives))]
+    #[tactic(auto, using(crate::proofs::Steps::boxed_gives))]
     pub(crate) fn reserved<N: Peek<'s> + Copy>(&mut self) -> Result<Boxed<Reserved<'s, N>>, Stop>
         // The first token tells a number from a name.
         requires { can_be_empty N.rule ≡ false }

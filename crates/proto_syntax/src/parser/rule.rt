@@ -49,7 +49,7 @@ impl<'s, 't> Parser<'s, 't> {
     }
 
     /// What the next tokens are by the rule of a type, in a box.
-    #[tactic(auto, using(crate::proofs::Ways::boxed_gives))]
+    #[tactic(auto, using(crate::proofs::Steps::boxed_gives))]
     pub(crate) fn boxed<T: Parse<'s>>(&mut self) -> Result<Boxed<T>, Stop>
         ensures { Reads T.tree T.rule result self.old.rest.now self.new.rest.now }
     {

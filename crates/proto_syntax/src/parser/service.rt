@@ -22,8 +22,7 @@ impl<'s, 't> Parser<'s, 't> {
             ((word "stream" ⨾ named_but []) ∣ named_but (codes "stream" ∷ [])) result
             self.old.rest.now self.new.rest.now }
     {
-        if self.at_keyword("stream") {
-            let stream = self.keyword("stream")?;
+        if let Some(stream) = self.optional_keyword("stream") {
             let name = self.type_name(Position::Free)?;
             return Ok((Some(stream), name));
         }
@@ -52,8 +51,7 @@ impl<'s, 't> Parser<'s, 't> {
     fn rpc_body(&mut self) -> Result<RpcBody<'s>, Stop>
         ensures { Reads rpc_body_tree rpc_body result self.old.rest.now self.new.rest.now }
     {
-        if self.at_symbol(';') {
-            let span = self.symbol(';')?;
+        if let Some(span) = self.optional_symbol(';') {
             return Ok(RpcBody::Semicolon(span));
         }
         let open_brace = self.symbol('{')?;

@@ -4,11 +4,11 @@ ghost use Rattle.std.specs.Cow.{cow_str_bytes};
 ghost use Rattle.std.specs.Prelude.{◌≡◌, [], ◌∷◌, ◌++◌, IfOk, IsTrue, codes};
 ghost use Rattle.proto_tokens.specs.Token.{identifier};
 ghost use Rattle.proto_tokens.specs.ProgramTokens.{lexeme_of};
-ghost use Rattle.proto_syntax.specs.Grammar.{Symbol, OneOf, NoneOf, One, Optional, fits};
+ghost use Rattle.proto_syntax.specs.Grammar.{Symbol, OneOf, NoneOf, One, fits};
 ghost use Rattle.proto_syntax.specs.Reading.{read, read_one, next_fits};
 ghost use Rattle.proto_syntax.specs.Language.{number, string_token, scalar_words, key_words};
 ghost use Rattle.proto_syntax.specs.Position.{excluded_words};
-ghost use Rattle.proto_syntax.specs.Trees.{symbol_tree, word_tree, name_tree, number_tree, string_tree, optional, word_of_scalar, word_of_key};
+ghost use Rattle.proto_syntax.specs.Trees.{symbol_tree, word_tree, name_tree, number_tree, string_tree, word_of_scalar, word_of_key};
 ghost use Rattle.proto_syntax.specs.Gives.{Reads, TakesIf, spellings};
 
 use crate::parser::Parser;
@@ -35,7 +35,7 @@ pub(crate) fn is_symbol(kind: &TokenKind, symbol: char) -> bool
 }
 
 /// Whether a token is this word.
-#[tactic(auto, using(crate::proofs::WordTests::fits_word))]
+#[tactic(auto, using(crate::proofs::Steps::fits_word))]
 pub(crate) fn is_keyword(kind: &TokenKind, word: &str) -> bool
     ensures fits { result ≡ fits (OneOf (word.now ∷ [])) (lexeme_of kind.now) }
     ensures same { IsTrue result → lexeme_of kind.now ≡ identifier word.now }
@@ -92,15 +92,17 @@ impl<'s, 't> Parser<'s, 't> {
     }
 
     /// This symbol, if it is the next token.
-    pub(crate) fn optional_symbol(&mut self, symbol: char) -> Result<Option<Span>, Stop>
-        ensures { Reads (optional (symbol_tree symbol)) (Optional (One (Symbol symbol))) result
-            self.old.rest.now self.new.rest.now }
+    pub(crate) fn optional_symbol(&mut self, symbol: char) -> Option<Span>
+        ensures { TakesIf (symbol_tree symbol) (One (Symbol symbol)) result self.old.rest.now
+            self.new.rest.now }
     {
-        if self.at_symbol(symbol) {
-            let span = self.symbol(symbol)?;
-            return Ok(Some(span));
+        match self.rest {
+            [token, rest @ ..] if is_symbol(&token.kind, symbol) => {
+                self.rest = rest;
+                Some(token.span)
+            }
+            _ => None,
         }
-        Ok(None)
     }
 
     /// This word.
@@ -118,15 +120,17 @@ impl<'s, 't> Parser<'s, 't> {
     }
 
     /// This word, if it is the next token.
-    pub(crate) fn optional_keyword(&mut self, word: &str) -> Result<Option<Span>, Stop>
-        ensures { Reads (optional (word_tree word.now)) (Optional (One (OneOf (word.now ∷ []))))
-            result self.old.rest.now self.new.rest.now }
+    pub(crate) fn optional_keyword(&mut self, word: &str) -> Option<Span>
+        ensures { TakesIf (word_tree word.now) (One (OneOf (word.now ∷ []))) result self.old.rest.now
+            self.new.rest.now }
     {
-        if self.at_keyword(word) {
-            let span = self.keyword(word)?;
-            return Ok(Some(span));
+        match self.rest {
+            [token, rest @ ..] if is_keyword(&token.kind, word) => {
+                self.rest = rest;
+                Some(token.span)
+            }
+            _ => None,
         }
-        Ok(None)
     }
 
     /// An identifier.
@@ -146,7 +150,7 @@ impl<'s, 't> Parser<'s, 't> {
     }
 
     /// This word, as a name.
-    #[tactic(auto, using(crate::proofs::WordTests::fits_word))]
+    #[tactic(auto, using(crate::proofs::Steps::fits_word))]
     pub(crate) fn word_name(&mut self, word: &str) -> Result<Name<'s>, Stop>
         ensures gives { Reads name_tree (One (OneOf (word.now ∷ []))) result self.old.rest.now
             self.new.rest.now }
@@ -203,8 +207,8 @@ impl<'s, 't> Parser<'s, 't> {
 
     /// The word of a scalar type, if it is the next token.
     pub(crate) fn optional_scalar(&mut self) -> Option<(ScalarType, Span)>
-        ensures { TakesIf (λ s. word_tree (word_of_scalar s.0) s.1) (OneOf scalar_words) result
-            self.old.rest.now self.new.rest.now }
+        ensures { TakesIf (λ s. word_tree (word_of_scalar s.0) s.1) (One (OneOf scalar_words))
+            result self.old.rest.now self.new.rest.now }
     {
         if let [token, rest @ ..] = self.rest
             && let TokenKind::Identifier(text) = &token.kind

@@ -1,5 +1,5 @@
 use Rattle.proto_syntax.proofs.Common.{arith, gets}
-use Rattle.proto_syntax.proofs.Spellings.{spelling_at}
+use Rattle.proto_syntax.proofs.Steps.{spelling_at}
 use Rattle.proto_syntax.proofs.parser.fault.kind_at.Goals as goal
 
 pub returns-in-Some : goal.returns-in-Some

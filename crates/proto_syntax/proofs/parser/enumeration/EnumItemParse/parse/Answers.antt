@@ -17,11 +17,8 @@ pub returns-in_err-reserved : goal.returns-in_err-reserved
 unfolding ereserved erange
 returns-in_err-reserved c = grind (arith, common_steps, begins_words, begins_option)
 
-pub returns-then-at_symbol : goal.returns-then-at_symbol
-returns-then-at_symbol c = grind (arith, common_steps, begins_words, begins_option)
-
-pub returns-in_err-span : goal.returns-in_err-span
-returns-in_err-span c = grind (arith, common_steps, begins_words, begins_option)
+pub returns-in-Some : goal.returns-in-Some
+returns-in-Some c = grind (arith, common_steps, begins_words, begins_option)
 
 pub returns : goal.returns
 unfolding ereserved erange
