@@ -33,7 +33,7 @@ impl<'s> Parse<'s> for EnumItem<'s> {
 
     ghost tree = { enum_item_tree };
 
-    #[tactic(auto, using(crate::proofs::Levels::signed_has_token))]
+    #[tactic(auto, using(crate::proofs::Levels::signed_has_token, crate::proofs::Levels::begins_words, crate::proofs::Levels::begins_option), unfolding(crate::specs::Language::ereserved, crate::specs::Language::erange))]
     fn parse(parser: &mut Parser<'s, '_>) -> Result<Self, Stop> {
         if parser.at_keyword("option") {
             return Ok(EnumItem::Option(parser.boxed()?));

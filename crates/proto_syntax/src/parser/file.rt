@@ -30,6 +30,7 @@ impl<'s, 't> Parser<'s, 't> {
     }
 
     /// A statement of a file.
+    #[tactic(auto, using(crate::proofs::Levels::begins_words, crate::proofs::Levels::begins_option, crate::proofs::Levels::begins_message))]
     fn statement(&mut self, depth: u64) -> Result<Statement<'s>, Stop>
         ensures { Reads statement_tree (statement (message depth)) result self.old.rest.now
             self.new.rest.now }
