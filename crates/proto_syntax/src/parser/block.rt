@@ -23,11 +23,12 @@ impl<'s, 't> Parser<'s, 't> {
             self.old.rest.now self.new.rest.now }
     {
         let mut items = Vec::new(self.alloc);
-        'each: while !self.at_symbol('}') {
+        'each: loop {
+            if let Some(close) = self.optional_symbol('}') {
+                return Ok((items, close));
+            }
             let item = I::parse(self)?;
             items.push(item)?;
         }
-        let close = self.symbol('}')?;
-        Ok((items, close))
     }
 }

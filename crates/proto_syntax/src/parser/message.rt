@@ -49,6 +49,7 @@ impl<'s, 't> Parser<'s, 't> {
     }
 
     /// A statement of a message that is no message.
+    #[tactic(auto, using(crate::proofs::Levels::begins_words, crate::proofs::Levels::begins_option, crate::proofs::Items::item_enum, crate::proofs::Items::item_option, crate::proofs::Items::item_oneof, crate::proofs::Items::item_reserved, crate::proofs::Items::item_empty), unfolding(crate::specs::Language::reserved, crate::specs::Language::range))]
     fn flat_item(&mut self) -> Result<MessageItem<'s>, Stop>
         ensures { Gives message_item_tree result self.new.rest.now
             (mapped Right (read flat_item (spellings self.old.rest.now))) }
@@ -89,12 +90,13 @@ impl<'s, 't> Parser<'s, 't> {
             self.new.rest.now }
     {
         let mut items = Vec::new(self.alloc);
-        'each: while !self.at_symbol('}') {
+        'each: loop {
+            if let Some(close) = self.optional_symbol('}') {
+                return Ok((items, close));
+            }
             let item = self.message_item(depth)?;
             items.push(item)?;
         }
-        let close = self.symbol('}')?;
-        Ok((items, close))
     }
 
     /// A message of at most that depth, in a box.
