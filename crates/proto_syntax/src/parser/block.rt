@@ -1,12 +1,10 @@
 //! Blocks: items up to a brace.
 
 ghost use Rattle.std.specs.Prelude.{◌≡◌, true};
-ghost use Rattle.std.specs.Str.{byte};
-ghost use Rattle.proto_syntax.specs.Grammar.{◌⨾◌, Many, Pair};
-ghost use Rattle.proto_syntax.specs.Reading.{decides, read};
+ghost use Rattle.proto_syntax.specs.Grammar.{◌⨾◌, Many};
+ghost use Rattle.proto_syntax.specs.Reading.{decides};
 ghost use Rattle.proto_syntax.specs.Language.{symbol};
-ghost use Rattle.proto_syntax.specs.Gives.{body_tree};
-ghost use Rattle.proto_syntax.specs.Gives.{Reads};
+ghost use Rattle.proto_syntax.specs.Gives.{Reads, body_tree};
 
 use crate::parser::Parser;
 use crate::parser::rule::Parse;

@@ -1,6 +1,5 @@
 //! Fields (proto3 language specification, "Normal Field", "Map field" and "Oneof and oneof field").
 
-ghost use Rattle.proto_syntax.specs.Reading.{read};
 ghost use Rattle.proto_syntax.specs.Language.{declarator, label, field_head, field, map_type, member};
 ghost use Rattle.proto_syntax.specs.Trees.{declarator_tree, label_tree, field_head_tree, field_tree, map_type_tree, member_tree};
 ghost use Rattle.proto_syntax.specs.Gives.{Reads, TakesIf};

@@ -2,7 +2,7 @@
 
 ghost use Rattle.std.specs.Prelude.{◌≡◌, false};
 ghost use Rattle.proto_syntax.specs.Grammar.{Many};
-ghost use Rattle.proto_syntax.specs.Reading.{can_be_empty, read};
+ghost use Rattle.proto_syntax.specs.Reading.{can_be_empty};
 ghost use Rattle.proto_syntax.specs.Language.{list_of, next_of};
 ghost use Rattle.proto_syntax.specs.Trees.{row, next_tree, separated_tree};
 ghost use Rattle.proto_syntax.specs.Gives.{Reads};

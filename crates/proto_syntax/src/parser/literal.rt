@@ -1,7 +1,6 @@
 //! Literals and constants (proto3 language specification, "Integer Literals", "String Literals" and "Constant").
 
 ghost use Rattle.proto_syntax.specs.Grammar.{◌∣◌};
-ghost use Rattle.proto_syntax.specs.Reading.{read};
 ghost use Rattle.proto_syntax.specs.Language.{symbol, str, signed, constant_number, constant};
 ghost use Rattle.proto_syntax.specs.Trees.{str_tree, signed_tree, sign_tree, constant_number_tree, constant_tree};
 ghost use Rattle.proto_syntax.specs.Gives.{Reads, TakesIf};

@@ -1,7 +1,6 @@
 //! Messages (proto3 language specification, "Message definition").
 
-ghost use Rattle.std.specs.Str.{byte};
-ghost use Rattle.proto_syntax.specs.Grammar.{◌⨾◌, Many, Pair, Left, Right};
+ghost use Rattle.proto_syntax.specs.Grammar.{◌⨾◌, Many, Left, Right};
 ghost use Rattle.proto_syntax.specs.Reading.{mapped, read};
 ghost use Rattle.proto_syntax.specs.Language.{message, message_item, map_or_field, symbol};
 ghost use Rattle.proto_syntax.specs.Trees.{message_item_tree, message_tree};

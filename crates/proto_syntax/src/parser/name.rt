@@ -1,6 +1,5 @@
 //! Names and types (proto3 language specification, "Identifiers" and "Fields").
 
-ghost use Rattle.proto_syntax.specs.Reading.{read};
 ghost use Rattle.proto_syntax.specs.Language.{part, full, named_but, type_but};
 ghost use Rattle.proto_syntax.specs.Position.{excluded_words};
 ghost use Rattle.proto_syntax.specs.Trees.{part_tree, full_tree, named_tree, type_tree};

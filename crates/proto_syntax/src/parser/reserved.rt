@@ -3,7 +3,7 @@
 ghost use Rattle.std.specs.Prelude.{◌≡◌, false};
 ghost use Rattle.std.specs.Str.{byte};
 ghost use Rattle.proto_syntax.specs.Grammar.{Optional, ◌⨾◌, ◌∣◌, Pair};
-ghost use Rattle.proto_syntax.specs.Reading.{can_be_empty, read};
+ghost use Rattle.proto_syntax.specs.Reading.{can_be_empty};
 ghost use Rattle.proto_syntax.specs.Language.{word, symbol, str, list_of, range_of, reserved_of};
 ghost use Rattle.proto_syntax.specs.Trees.{optional, symbol_tree, range_end_tree, range_tree, reserved_items_tree, reserved_tree};
 ghost use Rattle.proto_syntax.specs.Gives.{Reads};

@@ -2,7 +2,6 @@
 
 ghost use Rattle.std.specs.Prelude.{[], ◌∷◌, codes};
 ghost use Rattle.proto_syntax.specs.Grammar.{◌⨾◌, ◌∣◌};
-ghost use Rattle.proto_syntax.specs.Reading.{read};
 ghost use Rattle.proto_syntax.specs.Language.{word, named_but, rpc_type, rpc_item, rpc_body, rpc, service_item, service};
 ghost use Rattle.proto_syntax.specs.Trees.{streamed_tree, rpc_type_tree, rpc_item_tree, rpc_body_tree, rpc_tree, service_item_tree, service_tree};
 ghost use Rattle.proto_syntax.specs.Gives.{Reads};

@@ -5,7 +5,7 @@ ghost use Rattle.std.specs.Prelude.{◌≡◌, [], ◌∷◌, ◌++◌, IfOk, Is
 ghost use Rattle.proto_tokens.specs.Token.{identifier};
 ghost use Rattle.proto_tokens.specs.ProgramTokens.{lexeme_of};
 ghost use Rattle.proto_syntax.specs.Grammar.{Symbol, OneOf, NoneOf, One, fits};
-ghost use Rattle.proto_syntax.specs.Reading.{read, read_one, next_fits};
+ghost use Rattle.proto_syntax.specs.Reading.{next_fits};
 ghost use Rattle.proto_syntax.specs.Language.{number, string_token, scalar_words, key_words};
 ghost use Rattle.proto_syntax.specs.Position.{excluded_words};
 ghost use Rattle.proto_syntax.specs.Trees.{symbol_tree, word_tree, name_tree, number_tree, string_tree, word_of_scalar, word_of_key};
