@@ -26,6 +26,6 @@ pub use Rattle.proto_checks.specs.declared.covers.Interval.{Interval}
 pub use Rattle.proto_checks.specs.declared.marks.MarkedNumber.{MarkedNumber}
 pub use Rattle.proto_checks.specs.declared.marks.MarkedRange.{MarkedRange}
 pub use Rattle.proto_desc.specs.DeclaredNames.{file_scope, declared_by_message, scoped, Declared}
-pub use Rattle.proto_options.specs.Statements.{oneof_field, enum_value, ranges_in, file_package, names_in, service_rpc}
+pub use Rattle.proto_options.specs.Statements.{oneof_field, enum_value, file_package, names_in, service_rpc}
 pub use Rattle.proto_tree.specs.Items.{items_left}
 pub use Rattle.proto_tree.specs.Lists.{separated}

@@ -1,14 +1,12 @@
 //! The numbers of a message's fields and of an enum's values, and what is reserved there, each with its place.
 
 ghost use Rattle.std.specs.Prelude.{◌≡◌, ◌++◌, IfOk, OnOk, map, flat_map};
-ghost use Rattle.proto_options.specs.Statements.{oneof_field, message_reserved, enum_reserved, ranges_in};
+ghost use Rattle.proto_options.specs.Statements.{oneof_field};
 ghost use Rattle.proto_checks.specs.Gathered.{literal, signed_number, field_number, field_numbers, value_numbers, marked_range, bounds_of};
 ghost use Rattle.proto_checks.specs.Options.{optioned_in_oneof};
 
 use crate::marks::{MarkedNumber, MarkedRange};
-use proto_tree::{
-    EnumItem, MessageItem, NumberLiteral, OneofItem, Range, ReservedItems, SignedNumber,
-};
+use proto_tree::{EnumItem, MessageItem, NumberLiteral, OneofItem, Range, SignedNumber};
 use std::alloc::{AllocError, Global};
 
 /// The greatest number of a field, which `max` stands for in a message.
@@ -66,49 +64,6 @@ impl Literal for SignedNumber {
     }
 }
 
-/// A statement that may reserve numbers and names.
-pub(crate) trait Reserves<'s> {
-    ghost use Rattle.std.specs.Prelude.{◌≡◌, List};
-    ghost use Rattle.std.specs.Option.{option_copied, option_to_list};
-    ghost use Rattle.proto_tree.specs.declared.reserved.ReservedItems.{ReservedItems};
-
-    /// How its numbers are spelled.
-    type Number: Literal;
-
-    /// What it reserves: numbers or names, or nothing.
-    ghost reserved_by: { Self → List (ReservedItems Self.Number) };
-
-    /// What it reserves, where it does.
-    fn reserved(&self) -> Option<&ReservedItems<'s, Self::Number>>
-        ensures { reserved_by self.now ≡ option_to_list (option_copied result) };
-}
-
-impl<'s> Reserves<'s> for MessageItem<'s> {
-    type Number = NumberLiteral;
-
-    ghost reserved_by = { message_reserved };
-
-    fn reserved(&self) -> Option<&ReservedItems<'s, NumberLiteral>> {
-        match self {
-            MessageItem::Reserved(reserved) => Some(&reserved.get().items),
-            _ => None,
-        }
-    }
-}
-
-impl<'s> Reserves<'s> for EnumItem<'s> {
-    type Number = SignedNumber;
-
-    ghost reserved_by = { enum_reserved };
-
-    fn reserved(&self) -> Option<&ReservedItems<'s, SignedNumber>> {
-        match self {
-            EnumItem::Reserved(reserved) => Some(&reserved.get().items),
-            _ => None,
-        }
-    }
-}
-
 fn put_members(numbers: &mut Vec<MarkedNumber>, items: &[OneofItem]) -> Result<(), AllocError>
     ensures { OnOk result (numbers.new.items ≡ numbers.old.items
         ++ map field_number (map optioned_in_oneof (flat_map oneof_field items.now))) }
@@ -138,37 +93,6 @@ pub(crate) fn field_numbers(
         }
     }
     Ok(numbers)
-}
-
-fn put_ranges<N: Copy>(
-    ranges: &mut Vec<Range<N>>,
-    items: &ReservedItems<N>,
-) -> Result<(), AllocError>
-    ensures { OnOk result (ranges.new.items ≡ ranges.old.items ++ ranges_in items.now) }
-{
-    if let ReservedItems::Ranges(listed) = items {
-        for range in listed.iter() {
-            ranges.push(*range)?;
-        }
-    }
-    Ok(())
-}
-
-/// The ranges that statements reserve, as they stand there.
-pub(crate) fn ranges_listed<'s, I: Reserves<'s>>(
-    alloc: Global,
-    items: &[I],
-) -> Result<Vec<Range<I::Number>>, AllocError>
-    ensures { IfOk result (λ ranges. ranges.items
-        ≡ flat_map ranges_in (flat_map I.reserved_by items.now)) }
-{
-    let mut ranges = Vec::new(alloc);
-    for item in items {
-        if let Some(reserved) = item.reserved() {
-            put_ranges(&mut ranges, reserved)?;
-        }
-    }
-    Ok(ranges)
 }
 
 /// The numbers of a range, in which `max` stands for the greatest number.

@@ -11,14 +11,15 @@ ghost use Rattle.proto_checks.specs.Numbers.{FirstNotZero, FieldNumbersBreak, En
 use crate::aliases::is_aliasing;
 use crate::bounds::{first_no_field_number, first_outside};
 use crate::gathered::{
-    FIELD_MAX, Reserves, VALUE_MAX, VALUE_MIN, VALUE_ZERO, field_numbers, marked_bounds,
-    marked_ranges, ranges_listed, value_numbers,
+    FIELD_MAX, Literal, VALUE_MAX, VALUE_MIN, VALUE_ZERO, field_numbers, marked_bounds,
+    marked_ranges, value_numbers,
 };
 use crate::marks::{MarkedNumber, MarkedRange};
 use crate::ranges::{first_backwards, first_overlap, first_reserved_number};
 use crate::repeats::first_number_twice;
 use crate::reserved_names::{first_reserved_twice, reserved_names};
 use proto_base::{Kind, Spot, lesser};
+use proto_options::{Reserves, ranges_listed};
 use proto_tree::{EnumItem, MessageItem};
 use std::alloc::{AllocError, Global};
 
@@ -57,6 +58,8 @@ fn first_reserved_range_fault<'s, I: Reserves<'s>>(
     greatest: u128,
     kind: Kind,
 ) -> Result<Option<Spot>, AllocError>
+where
+    I::Number: Literal,
     ensures { IfOk result (λ first. IsLeast
         (ReservedRangesBreak I.Number.mark least greatest kind
         (flat_map ranges_in (flat_map I.reserved_by items.now)) numbers.now) first) }

@@ -1,6 +1,6 @@
 //! Reserved names: that none is reserved twice, and that none is in use.
 
-ghost use Rattle.std.specs.Prelude.{◌≡◌, ◌↔◌, ◌++◌, Contains, IfOk, IfSome, IsTrue, OnOk, flat_map, map};
+ghost use Rattle.std.specs.Prelude.{◌≡◌, ◌↔◌, Contains, IfOk, IfSome, IsTrue, flat_map, map};
 ghost use Rattle.proto_base.specs.declared.kind.Kind.TheVariants.{ReservedNameTwice};
 ghost use Rattle.proto_checks.specs.Gathered.{reserved_name};
 ghost use Rattle.proto_options.specs.Statements.{names_in};
@@ -9,13 +9,12 @@ ghost use Rattle.proto_checks.specs.Marks.{TextTwice, ReservedNameUsed};
 ghost use Rattle.proto_checks.specs.NameSets.{HoldsJust};
 ghost use Rattle.proto_checks.specs.Parts.{name_mark};
 
-use crate::gathered::Reserves;
 use crate::marks::{HasText, MarkedText};
 use crate::repeats::{FEW, first_text_twice};
 use proto_base::text::Text;
 use proto_base::{Kind, Place, Spot, lesser};
 use proto_desc::Declares;
-use proto_tree::ReservedItems;
+use proto_options::{Reserves, names_listed};
 use proto_tree::text::joined;
 use std::alloc::{AllocError, Global};
 use std::collections::BTreeSet;
@@ -47,25 +46,6 @@ impl<'s> HasText for ReservedName<'s> {
     }
 }
 
-fn put_names<'s, N>(
-    alloc: Global,
-    names: &mut Vec<ReservedName<'s>>,
-    items: &ReservedItems<'s, N>,
-) -> Result<(), AllocError>
-    ensures { OnOk result (names.new.items ≡ names.old.items
-        ++ map reserved_name (names_in items.now)) }
-{
-    if let ReservedItems::Names(listed) = items {
-        for name in listed.iter() {
-            names.push(ReservedName {
-                text: joined(alloc, name)?,
-                place: name.first.span.start,
-            })?;
-        }
-    }
-    Ok(())
-}
-
 /// The names that statements reserve.
 pub(crate) fn reserved_names<'s, I: Reserves<'s>>(
     alloc: Global,
@@ -74,11 +54,13 @@ pub(crate) fn reserved_names<'s, I: Reserves<'s>>(
     ensures { IfOk result (λ names. names.items
         ≡ map reserved_name (flat_map names_in (flat_map I.reserved_by items.now))) }
 {
-    let mut names = Vec::new(alloc);
-    for item in items {
-        if let Some(reserved) = item.reserved() {
-            put_names(alloc, &mut names, reserved)?;
-        }
+    let listed = names_listed(alloc, items)?;
+    let mut names = Vec::with_capacity(alloc, listed.len())?;
+    for name in listed {
+        names.push(ReservedName {
+            text: joined(alloc, name)?,
+            place: name.first.span.start,
+        })?;
     }
     Ok(names)
 }

@@ -16,9 +16,8 @@ pub use Rattle.proto_lower.specs.Messages.{all_fields, lowered_message, message_
 pub use Rattle.proto_lower.specs.Names.{first_free, with_underscore, behind_letters, letters_behind, raised, json_name_of}
 pub use Rattle.proto_lower.specs.Oneofs.{names_of_oneofs, made_named, with_one, with_made, real_named, real_oneofs, names_of_fields}
 pub use Rattle.proto_lower.specs.Options.{option_under, option_at, option_by, options_of}
-pub use Rattle.proto_lower.specs.Reserveds.{enum_range, message_range}
+pub use Rattle.proto_lower.specs.Reserveds.{enum_range}
 pub use Rattle.proto_lower.specs.Taken.{begins_as_made, HoldsTaken}
-pub use Rattle.proto_options.specs.Statements.{message_oneof, oneof_field, enum_value, enum_reserved, ranges_in, names_in, file_package, file_message, file_enum, file_service, message_enum, message_reserved, service_rpc}
-pub use Rattle.proto_tree.specs.Items.{items_left}
+pub use Rattle.proto_options.specs.Statements.{message_oneof, oneof_field, enum_value, names_in, file_package, file_message, file_enum, file_service, message_enum, service_rpc}
 pub use Rattle.proto_tree.specs.Text.{joined}
 pub use Rattle.proto_tree.specs.declared.message.MessageItem.{MessageItem, Message', Row_of-MessageItem, end_of-MessageItem, more_of-MessageItem, Row_of-Message, end_of-Message, more_of-Message, items-the_row-MessageItem, items-the_row-Message, items_shown-the_row-MessageItem-0, items_hidden-the_row-Message-1}

@@ -4,23 +4,21 @@ ghost use Rattle.std.specs.Prelude.{◌≡◌, ◌∷◌, ◌++◌, [], IfOk, On
 ghost use Rattle.proto_lower.specs.Messages.{entry_field, entry_fields, entry_of, all_fields, message_of, nested_of, lowered_message};
 ghost use Rattle.proto_lower.specs.Oneofs.{real_oneofs, names_of_fields, with_made};
 ghost use Rattle.proto_lower.specs.Enums.{lowered_enum};
-ghost use Rattle.proto_lower.specs.Reserveds.{message_range};
-ghost use Rattle.proto_options.specs.Statements.{message_enum, message_reserved, ranges_in, names_in};
-ghost use Rattle.proto_tree.specs.Text.{joined};
+ghost use Rattle.proto_options.specs.Statements.{message_enum};
 
 use crate::enumeration::put_enum;
 use crate::field::{field_count, inner_name, put_fields, real_count};
 use crate::names::entry_name;
 use crate::oneof::put_oneofs;
 use crate::options::options_of;
-use crate::reserved::put_message_reserved;
+use crate::reserved::{message_ranges, reserved_names};
 use crate::type_name::{field_kind, scalar_of_key};
 use proto_base::Place;
 use proto_base::row::Row;
 use proto_base::text::Text;
 use proto_desc::enumeration::EnumDesc;
 use proto_desc::field::{FieldDesc, FieldKind, FieldLabel};
-use proto_desc::message::{MessageDesc, ReservedRange};
+use proto_desc::message::MessageDesc;
 use proto_desc::oneof::OneofDesc;
 use proto_desc::rules::Element;
 use proto_tree::{MapField, Message, MessageItem, Name};
@@ -113,17 +111,15 @@ fn put_enums<'s>(
     Ok(())
 }
 
-/// What the statements of a message give, but its nested messages and its options.
+/// The fields, the oneofs and the enums of a message.
 #[derive(Drop)]
 struct Parts<'s> {
     fields: Vec<FieldDesc<'s>>,
     oneofs: Vec<OneofDesc<'s>>,
     enums: Vec<EnumDesc<'s>>,
-    reserved_ranges: Vec<ReservedRange>,
-    reserved_names: Vec<Text<'s>>,
 }
 
-/// Adds what these statements of the message with this full name give.
+/// Adds those of the statements of the message with this full name.
 fn put_parts<'s>(
     alloc: Global,
     out: &mut Parts<'s>,
@@ -137,20 +133,10 @@ fn put_parts<'s>(
         (out.old.oneofs.items ++ real_oneofs items.now) out.new.fields.items) }
     ensures enums { OnOk result (out.new.enums.items
         ≡ out.old.enums.items ++ map lowered_enum (flat_map message_enum items.now)) }
-    ensures ranges { OnOk result (out.new.reserved_ranges.items ≡ out.old.reserved_ranges.items
-        ++ map message_range (flat_map ranges_in (flat_map message_reserved items.now))) }
-    ensures names { OnOk result (out.new.reserved_names.items ≡ out.old.reserved_names.items
-        ++ map joined (flat_map names_in (flat_map message_reserved items.now))) }
 {
     put_fields(alloc, &mut out.fields, full, items, real_count(items))?;
     put_oneofs(alloc, &mut out.oneofs, items, out.fields.as_slice())?;
-    put_enums(alloc, &mut out.enums, items)?;
-    put_message_reserved(
-        alloc,
-        &mut out.reserved_ranges,
-        &mut out.reserved_names,
-        items,
-    )
+    put_enums(alloc, &mut out.enums, items)
 }
 
 /// Adds the message of this full name, name and statements, with the descriptors of its nested messages.
@@ -170,8 +156,6 @@ fn put_message_of<'s>(
         fields: Vec::with_capacity(alloc, field_count(items))?,
         oneofs: Vec::new(alloc),
         enums: Vec::new(alloc),
-        reserved_ranges: Vec::new(alloc),
-        reserved_names: Vec::new(alloc),
     };
     put_parts(alloc, &mut parts, full, items)?;
     out.push(MessageDesc {
@@ -181,8 +165,8 @@ fn put_message_of<'s>(
         nested,
         enums: Row::from_vec(parts.enums),
         oneofs: Row::from_vec(parts.oneofs),
-        reserved_ranges: Row::from_vec(parts.reserved_ranges),
-        reserved_names: Row::from_vec(parts.reserved_names),
+        reserved_ranges: Row::from_vec(message_ranges(alloc, items)?),
+        reserved_names: Row::from_vec(reserved_names(alloc, items)?),
         options,
         is_map_entry: false,
     })?;

@@ -1,5 +1,6 @@
-use Rattle.proto_checks.proofs.Common.{◌≡◌, take, flat_map, ranges_in}
-use Rattle.proto_checks.proofs.gathered.ranges_listed.Given as goal
+use Rattle.std.proofs.Common.{◌≡◌, take, flat_map}
+use Rattle.proto_options.specs.Statements.{ranges_in}
+use Rattle.proto_options.proofs.reserved.ranges_listed.Given as goal
 
 abbrev pub invariant-loop-item : goal.invariant-loop-item
 invariant-loop-item g l =

@@ -1,5 +1,0 @@
-use Rattle.proto_lower.proofs.Common.{arith, common_steps}
-use Rattle.proto_lower.proofs.reserved.put_message_reserved.Goals as goal
-
-pub returns : goal.returns
-returns c = grind (arith, common_steps)
