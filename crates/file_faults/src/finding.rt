@@ -11,15 +11,12 @@ ghost use Rattle.proto_compile.specs.Sources.{AreByName};
 ghost use Rattle.proto_compile.specs.declared.source.Source.{Source};
 
 use proto_base::{Fault, FileError, FileFault, Limits};
-use proto_compile::Source;
+use proto_compile::{LOCAL, Source};
 use proto_file::describe;
 use share_work::phases::DESCRIBING;
 use share_work::{Gate, ItemWork, Plan, each_in_shares};
 use std::alloc::{AllocError, AllocGlobal, Global};
 use std::thread::Threads;
-
-/// The compiler's pass over each source by itself.
-const LOCAL: u8 = 1;
 
 /// Finds the first fault of each source by itself.
 #[derive(Drop)]

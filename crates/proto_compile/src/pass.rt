@@ -11,6 +11,9 @@ pub(crate) mod types;
 ghost use Rattle.std.specs.Prelude.{◌≡◌};
 ghost use Rattle.proto_compile.specs.Passes.{number_of};
 
+/// The number of the pass over each source by itself, as a fault has it.
+pub const LOCAL: u8 = 1;
+
 /// A pass over sources. A later one is judged only where every file has passed all earlier ones.
 #[derive(Clone, Copy)]
 pub(crate) enum Pass {
@@ -37,7 +40,7 @@ impl Pass {
     {
         match self {
             Pass::List => 0,
-            Pass::Local => 1,
+            Pass::Local => LOCAL,
             Pass::Imports => 2,
             Pass::Names => 3,
             Pass::Types => 4,

@@ -88,15 +88,15 @@ struct Declared<'s> {
 
 /// How many statements of each kind there are.
 #[derive(Clone, Copy)]
-struct Counts {
+struct StatementCounts {
     imports: usize,
     messages: usize,
     enums: usize,
     services: usize,
 }
 
-fn counts_of(statements: &[Statement]) -> Counts {
-    let mut counts = Counts {
+fn counts_of(statements: &[Statement]) -> StatementCounts {
+    let mut counts = StatementCounts {
         imports: 0,
         messages: 0,
         enums: 0,

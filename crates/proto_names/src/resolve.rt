@@ -31,7 +31,7 @@ pub enum Want {
 
 impl Want {
     /// Whether a type of this kind is wanted.
-    fn allows(self, kind: NameKind) -> bool
+    pub fn allows(self, kind: NameKind) -> bool
         ensures { IsTrue result ↔ (self ≡ wants.MessageOnly → kind ≡ kinds.Message) }
     {
         match self {

@@ -15,7 +15,6 @@ use proto_base::{Kind, Place, Spot};
 use proto_desc::field::{FieldDesc, FieldKind};
 use proto_desc::file::FileDesc;
 use proto_desc::message::MessageDesc;
-use proto_desc::name_kind::NameKind;
 use proto_desc::options::OptionDesc;
 use proto_desc::service::{MethodDesc, ServiceDesc};
 use proto_desc::type_name::TypeReference;
@@ -34,9 +33,7 @@ fn meaning_by(
     ensures { IfOk result (IsMeaningBy want found.entry place options.now) }
 {
     let kind = match found {
-        Some(found) if want == Want::AnyType || found.kind == NameKind::Message => {
-            return meaning_of(alloc, found, options);
-        }
+        Some(found) if want.allows(found.kind) => return meaning_of(alloc, found, options),
         Some(_) => Kind::TypeNotMessage,
         None => Kind::TypeNotFound,
     };

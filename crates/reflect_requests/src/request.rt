@@ -37,7 +37,7 @@ pub enum Ask<'b> {
 
 /// What one field of a request says.
 #[derive(Clone, Copy)]
-enum Part<'b> {
+enum Said<'b> {
     Host(&'b str),
     Member(Ask<'b>),
     Unknown,
@@ -77,27 +77,27 @@ fn check_extension(alloc: Global, message: &[u8]) -> Result<(), WireError>
 }
 
 /// What a field says, by its number in `ServerReflectionRequest`.
-fn part_of<'b>(alloc: Global, field: &Field<'b>) -> Result<Part<'b>, WireError>
+fn part_of<'b>(alloc: Global, field: &Field<'b>) -> Result<Said<'b>, WireError>
     ensures part { IfOk result (Says (field_of field.now)) }
     ensures malformed { result ≡ Err errors.Malformed → ¬ IsWellFormed (field_of field.now) }
 {
     let FieldValue::Delimited(bytes) = field.value else {
-        return Ok(Part::Unknown);
+        return Ok(Said::Unknown);
     };
     match field.number {
-        1 => Ok(Part::Host(text(bytes)?)),
-        3 => Ok(Part::Member(Ask::FileByName(text(bytes)?))),
-        4 => Ok(Part::Member(Ask::FileBySymbol(text(bytes)?))),
+        1 => Ok(Said::Host(text(bytes)?)),
+        3 => Ok(Said::Member(Ask::FileByName(text(bytes)?))),
+        4 => Ok(Said::Member(Ask::FileBySymbol(text(bytes)?))),
         5 => {
             check_extension(alloc, bytes)?;
-            Ok(Part::Member(Ask::FileByExtension))
+            Ok(Said::Member(Ask::FileByExtension))
         }
-        6 => Ok(Part::Member(Ask::ExtensionNumbers(text(bytes)?))),
+        6 => Ok(Said::Member(Ask::ExtensionNumbers(text(bytes)?))),
         7 => {
             text(bytes)?;
-            Ok(Part::Member(Ask::ListServices))
+            Ok(Said::Member(Ask::ListServices))
         }
-        _ => Ok(Part::Unknown),
+        _ => Ok(Said::Unknown),
     }
 }
 
@@ -122,9 +122,9 @@ pub fn read_request<'b>(alloc: Global, message: &'b [u8]) -> Result<Request<'b>,
     let mut ask = Ask::Nothing;
     for field in &fields {
         match part_of(alloc, field)? {
-            Part::Host(text) => host = text,
-            Part::Member(member) => ask = member,
-            Part::Unknown => {}
+            Said::Host(text) => host = text,
+            Said::Member(member) => ask = member,
+            Said::Unknown => {}
         }
     }
     Ok(Request { host, ask })

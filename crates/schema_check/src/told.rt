@@ -5,13 +5,10 @@ ghost use Rattle.schema_check.specs.Told.{ArePlaced, AreTold, IsFirst};
 
 use file_faults::faults_of_files;
 use proto_base::{Fault, Limits};
-use proto_compile::{CompileError, Source, compile};
+use proto_compile::{CompileError, LOCAL, Source, compile};
 use share_work::{NoGate, Plan};
 use std::alloc::{AllocError, AllocGlobal};
 use std::thread::Threads;
-
-/// The compiler's pass over each source by itself.
-const LOCAL: u8 = 1;
 
 /// The first fault of sources; none only where they are compiled.
 fn first_fault<R>(

@@ -24,7 +24,7 @@ const PRIVATE: u32 = 0o600;
 
 /// What a path leads to.
 #[derive(Drop)]
-enum Place {
+enum Target {
     /// The standard output of this process.
     StandardOutput,
     /// A terminal, a pipe, /dev/null: what is written to where it stands.
@@ -108,33 +108,33 @@ fn look_at<R: Files>(rt: &R, path: &str) -> io::Result<Option<FileType>> {
 
 /// What is behind a link that shows what a process has open. A file is refused, but for standard output: from where on it
 /// is written only its own descriptor knows.
-fn place_of_open<R>(rt: &R, link: Path<'_>, found: Option<FileType>) -> io::Result<Place>
+fn target_of_open<R>(rt: &R, link: Path<'_>, found: Option<FileType>) -> io::Result<Target>
 where
     R: Files + AllocGlobal,
 {
     if is_standard_output(rt, link)? {
-        return Ok(Place::StandardOutput);
+        return Ok(Target::StandardOutput);
     }
     match found {
-        Some(found) if !found.is_file() => Ok(Place::Device),
+        Some(found) if !found.is_file() => Ok(Target::Device),
         _ => Err(io::Error::from(ErrorKind::Unsupported)),
     }
 }
 
 /// What a path leads to.
-fn place_of<R>(rt: &R, path: &str) -> io::Result<Place>
+fn target_of<R>(rt: &R, path: &str) -> io::Result<Target>
 where
     R: Files + AllocGlobal,
 {
     let found = look_at(rt, path)?;
     let followed = follow_links(rt, path)?;
     if is_link(rt, followed.as_path()) {
-        return place_of_open(rt, followed.as_path(), found);
+        return target_of_open(rt, followed.as_path(), found);
     }
     match found {
-        None => Ok(Place::Free(followed)),
-        Some(found) if found.is_file() => Ok(Place::File(followed)),
-        Some(_) => Ok(Place::Device),
+        None => Ok(Target::Free(followed)),
+        Some(found) if found.is_file() => Ok(Target::File(followed)),
+        Some(_) => Ok(Target::Device),
     }
 }
 
@@ -265,11 +265,11 @@ where
     ensures { IsSetRun (Some path.entry) (O.writes writer.old) (O.writes writer.new)
         (set_of set.old.compiled.now.files set.old.compiled.now.links) result }
 {
-    let written = match place_of(rt, path) {
-        Ok(Place::StandardOutput) => return set.write(writer),
-        Ok(Place::Device) => write_device(rt, path, set),
-        Ok(Place::File(file)) => rewrite(rt, file.as_path(), set),
-        Ok(Place::Free(free)) => replace(rt, free.as_path(), set, None),
+    let written = match target_of(rt, path) {
+        Ok(Target::StandardOutput) => return set.write(writer),
+        Ok(Target::Device) => write_device(rt, path, set),
+        Ok(Target::File(file)) => rewrite(rt, file.as_path(), set),
+        Ok(Target::Free(free)) => replace(rt, free.as_path(), set, None),
         Err(error) => Err(error),
     };
     match written {

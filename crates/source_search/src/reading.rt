@@ -14,11 +14,11 @@ use std::thread::Threads;
 
 /// Finds what each source imports.
 #[derive(Drop)]
-struct Reading {
+struct ImportReading {
     limits: Limits,
 }
 
-impl ItemWork<NamedText> for Reading {
+impl ItemWork<NamedText> for ImportReading {
     ghost use Rattle.std.specs.Prelude.{⊤};
     ghost use Rattle.source_search.specs.Searching.{SourceImports};
 
@@ -49,7 +49,7 @@ where
     R: Threads + AllocGlobal + Sync,
     ensures { IfOk result (λ lists. AllZip (SourceImports limits.now) sources.now lists.items) }
 {
-    let work = Reading { limits: *limits };
+    let work = ImportReading { limits: *limits };
     let plan = plan.evened(sources.len());
     each_in_shares(rt, plan, UNGATED, &NoGate, sources, &work)
 }

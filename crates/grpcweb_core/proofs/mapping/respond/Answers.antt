@@ -4,7 +4,8 @@ use Rattle.grpcweb_core.proofs.mapping.respond.Goals as goal
 
 pub returns-then-not-is_reflection : goal.returns-then-not-is_reflection
 returns-then-not-is_reflection g c =
-    IfOk-weaker c.in_frames.result _ _ (λ answer is. rw is (rw c.in_ok-response_without_replies.ensures
+    IfOk-weaker c.in_frames.result _ _ (λ answer is. rw is
+    (rw (c.in_ok-response_without_replies.ensures, c.number-status.ensures)
     (elsewhere (λ known. cc (c.is_reflection.ensures.1 known))))) c.in_frames.ensures
 
 pub returns-then-not-is_post : goal.returns-then-not-is_post
