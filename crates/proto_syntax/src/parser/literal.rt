@@ -1,8 +1,8 @@
 //! Literals and constants (proto3 language specification, "Integer Literals", "String Literals" and "Constant").
 
 ghost use Rattle.proto_syntax.specs.Grammar.{◌∣◌};
-ghost use Rattle.proto_syntax.specs.Language.{symbol, str, signed, constant_number, constant};
-ghost use Rattle.proto_syntax.specs.Trees.{str_tree, signed_tree, sign_tree, constant_number_tree, constant_tree};
+ghost use Rattle.proto_syntax.specs.Language.{symbol, str, signed, constant};
+ghost use Rattle.proto_syntax.specs.Trees.{str_tree, signed_tree, sign_tree, constant_tree};
 ghost use Rattle.proto_syntax.specs.Gives.{Reads, TakesIf};
 
 use crate::parser::Parser;
@@ -28,17 +28,6 @@ impl<'s, 't> Parser<'s, 't> {
         None
     }
 
-    /// A number with an optional sign.
-    #[tactic(auto, unfolding(crate::specs::Language::constant_number))]
-    fn constant_number(&mut self) -> Result<ConstantNumber, Stop>
-        ensures { Reads constant_number_tree constant_number result self.old.rest.now
-            self.new.rest.now }
-    {
-        let sign = self.sign();
-        let number = NumberLiteral::parse(self)?;
-        Ok(ConstantNumber { sign, number })
-    }
-
     /// The value of an option.
     #[tactic(auto, unfolding(crate::specs::Language::constant, crate::specs::Language::full, crate::specs::Language::constant_number))]
     pub(crate) fn constant(&mut self) -> Result<Constant<'s>, Stop>
@@ -48,9 +37,10 @@ impl<'s, 't> Parser<'s, 't> {
             let name = self.full_name()?;
             return Ok(Constant::Name(name));
         }
-        if self.at_symbol('-') || self.at_symbol('+') || NumberLiteral::is_next(self) {
-            let number = self.constant_number()?;
-            return Ok(Constant::Number(number));
+        let sign = self.sign();
+        if sign.is_some() || NumberLiteral::is_next(self) {
+            let number = NumberLiteral::parse(self)?;
+            return Ok(Constant::Number(ConstantNumber { sign, number }));
         }
         let string = StringValue::parse(self)?;
         Ok(Constant::String(string))
