@@ -1,13 +1,18 @@
 //! Fields (proto3 language specification, "Normal Field", "Map field" and "Oneof and oneof field").
 
-ghost use Rattle.proto_syntax.specs.Language.{declarator, label, field_head, field, map_type, member};
-ghost use Rattle.proto_syntax.specs.Trees.{declarator_tree, label_tree, field_head_tree, field_tree, map_type_tree, member_tree};
-ghost use Rattle.proto_syntax.specs.Gives.{Reads, TakesIf};
+ghost use Rattle.std.specs.Prelude.{[]};
+ghost use Rattle.std.specs.Str.{byte};
+ghost use Rattle.proto_syntax.specs.Grammar.{◌⨾◌, Pair};
+ghost use Rattle.proto_syntax.specs.Reading.{mapped, read};
+ghost use Rattle.proto_syntax.specs.Language.{symbol, key, type_but, declarator, label, field_head, field, member};
+ghost use Rattle.proto_syntax.specs.Trees.{symbol_tree, declarator_tree, label_tree, field_head_tree, field_tree, map_type_tree, member_tree};
+ghost use Rattle.proto_syntax.specs.Gives.{Gives, Reads, TakesIf, spellings};
 
 use crate::parser::Parser;
 use crate::parser::position::Position;
 use crate::parser::rule::Parse;
 use crate::parser::stop::Stop;
+use proto_base::Span;
 use proto_tree::{Declarator, Field, FieldType, Label, MapType, OneofField};
 
 impl<'s, 't> Parser<'s, 't> {
@@ -54,12 +59,12 @@ impl<'s, 't> Parser<'s, 't> {
         Ok((None, field_type))
     }
 
-    /// The types of a map, in angle brackets.
-    #[tactic(auto, unfolding(crate::specs::Language::map_type))]
-    pub(crate) fn map_type(&mut self) -> Result<MapType<'s>, Stop>
-        ensures { Reads map_type_tree map_type result self.old.rest.now self.new.rest.now }
+    /// The types of a map, behind the angle bracket that opens them.
+    pub(crate) fn map_type(&mut self, open_angle: Span) -> Result<MapType<'s>, Stop>
+        ensures { Gives map_type_tree result self.new.rest.now
+            (mapped (Pair (symbol_tree (byte "<") open_angle))
+            (read (key ⨾ symbol "," ⨾ type_but [] ⨾ symbol ">") (spellings self.old.rest.now))) }
     {
-        let open_angle = self.symbol('<')?;
         let (key, key_span) = self.key()?;
         let comma = self.symbol(',')?;
         let value = self.field_type(Position::Free)?;

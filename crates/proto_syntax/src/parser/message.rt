@@ -23,8 +23,8 @@ impl<'s, 't> Parser<'s, 't> {
             (read map_or_field (spellings self.old.rest.now))) }
     {
         let first = self.word_name("map")?;
-        if self.at_symbol('<') {
-            let map_type = self.map_type()?;
+        if let Some(open_angle) = self.optional_symbol('<') {
+            let map_type = self.map_type(open_angle)?;
             let declarator = self.declarator()?;
             let map = MapField {
                 keyword: first.span,
