@@ -125,7 +125,7 @@ while read -r row name _; do
 done <"$folder/named"
 
 # The laws: public functions that do nothing, or whose comment calls them laws.
-find crates/*/src -name '*.rt' ! -path 'crates/test_*' ! -path 'crates/bench_*' -exec awk '
+find crates/*/src -name '*.rt' ! -path 'crates/test_*' -exec awk '
     FNR == 1 { law = 0; name = "" }
     /^ *\/\/\/ A law:/ { law = 1 }
     /^ *(pub(\(crate\))? )?fn / {
