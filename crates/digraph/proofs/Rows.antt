@@ -1,5 +1,5 @@
 -- What loops over rows of nodes keep: members, marks, edges and ways, whatever they gather.
-use Rattle.digraph.proofs.Common.{ℕ, zero, suc, ne_eqb, ◌≤◌, arith, ◌≡◌, ◌⊎◌, ◌+◌, ◌<◌, ◌↔◌, rules, sym, subst, List, length, get_or, Bool, true, Contains, set, IsPermutation, length-append, [], ◌∷◌, ◌++◌, ◌∙◌, append_assoc, false, length-set, eqb, take, drop, Vec, Global, Graph, Edge, graph_of, successors, Leads, here, through, common_steps, cases_eq, cases_lt, true≢false, eqb-true, false_from_ne_true, IsMarked, Among, AreMarked, IsFrontOf, AllByRecursion, list_any, IsStrictlyIncreasing, Contains-get_or, Contains-append_cases, Contains-append_right, Contains-push, Contains-push_cases, Contains-append_left, IsDistinct-push, IsDistinct-from_apart, map-set, map-append}
+use Rattle.digraph.proofs.Common.{ℕ, zero, suc, ne_eqb, ◌≤◌, arith, ◌≡◌, ◌⊎◌, ◌+◌, ◌<◌, ◌↔◌, rules, sym, subst, List, length, get_or, Bool, true, Contains, set, IsPermutation, length-append, get_or_default, [], ◌∷◌, ◌++◌, ◌∙◌, append_assoc, false, length-set, eqb, take, drop, Vec, Global, Graph, Edge, graph_of, successors, Leads, here, through, common_steps, cases_eq, cases_lt, true≢false, eqb-true, false_from_ne_true, IsMarked, Among, AreMarked, IsFrontOf, list_any, IsStrictlyIncreasing, Contains-get_or, Contains-append_cases, Contains-append_right, Contains-push, Contains-push_cases, Contains-append_left, IsDistinct-push, IsDistinct-from_apart, map-set, map-append}
 use Rattle.std.proofs.lemmas.List.Sorted.{Contains-permutation, IsPermutation-sym}
 use Rattle.std.proofs.Math.Seq.{get_or-append_right}
 use Rattle.std.specs.List.{IsDistinct}
@@ -107,9 +107,6 @@ below_push Q n a f g q = (λ w. grind arith, λ w. grind arith)
 pub among_more : (xs : List ℕ) (n c : ℕ) → Among xs (n + 1) c ↔ (Among xs n c ⊎ (get_or xs n 0 ≡ c))
 among_more xs n c = grind arith
 
-pub default_same : (xs : List ℕ) (k c d : ℕ) → k < length xs → get_or xs k c ≡ get_or xs k d
-default_same xs k c d h = grind (arith, common_steps)
-
 pub among_all : (xs : List ℕ) (n c : ℕ) → n ≡ length xs → Contains xs c ↔ Among xs n c
 among_all xs n c e = grind (arith, common_steps)
 
@@ -151,7 +148,7 @@ module _ {X : Type 0} (R : X → X → Type 0) (trans : (x y z : X) → R x y �
 pub once : (R : ℕ → ℕ → Type 0) → ((x y z : ℕ) → R x y → R y z → R x z) → ((x : ℕ) → R x x → ⊥) → (xs : List ℕ)
     → ((k : ℕ) → k + 1 < length xs → R (get_or xs k 0) (get_or xs (k + 1) 0)) → IsDistinct eqb xs
 once R trans never xs rises = IsDistinct-from_apart eqb xs (λ i j d less inside. ne_eqb _ _ (λ same. never _
-    (rw (default_same xs i 0 d (omega arith), default_same xs j 0 d inside, same) at
+    (rw (get_or_default xs i 0 d (omega arith), get_or_default xs j 0 d inside, same) at
     (far R trans xs 0 rises i j less inside))))
 
 -- numbers below n with no two equal are at most n, and all numbers below n are at least n
@@ -170,12 +167,6 @@ pub rises_push : (xs : List ℕ) (p : ℕ) → IsStrictlyIncreasing xs → ((c :
     → IsStrictlyIncreasing (xs ++ p ∷ [])
 rises_push xs p up below = steps_append (λ a b. a < b) xs (p ∷ []) up (λ k h. absurd (omega arith))
     (λ a b w v. let is = one_only p b v in let less = below a w in omega arith)
-
--- ---- what holds of each
-
-pub all_push : {X : Type 0} (P : X → Type 0) (xs : List X) (x : X) → AllByRecursion P xs → P x
-    → AllByRecursion P (xs ++ x ∷ [])
-all_push P xs x w p = grind (arith, common_steps)
 
 -- ---- marking
 

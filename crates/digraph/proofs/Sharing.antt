@@ -1,7 +1,7 @@
 -- Ranges of a list that only grows, and names for what stands in them.
-use Rattle.digraph.proofs.Common.{◌≡◌, ℕ, ◌+◌, ◌<◌, ◌≤◌, List, [], ◌∷◌, ◌++◌, length, drop, get_or, refl, arith, length-append, Result, OnErr, ◌∙◌, sym, suc, map, Contains, length-map, map-append, take_all, get_or-map, drop-map, take-map, common_steps, IsFrontOf, AllByRecursion, recursion_from_All, node_at}
+use Rattle.digraph.proofs.Common.{◌≡◌, ℕ, ◌+◌, ◌<◌, ◌≤◌, List, [], ◌∷◌, ◌++◌, length, drop, get_or, refl, arith, length-append, Result, OnErr, ◌∙◌, sym, suc, map, Contains, length-map, map-append, take_all, get_or-map, drop-map, take-map, get_or_default, common_steps, IsFrontOf, AllByRecursion, recursion_from_All, node_at}
 use Rattle.digraph.specs.Ranges.{range_of, ranges_of, AreWithin, Holds, name_of}
-use Rattle.digraph.proofs.Rows.{all_push, default_same}
+use Rattle.std.proofs.SliceLists.{all_by_recursion_push}
 
 pub within_more : (n m : ℕ) (rs : List (ℕ × ℕ)) → n ≤ m → AreWithin n rs → AreWithin m rs
 within_more n m [] h w = tt
@@ -30,7 +30,7 @@ view_pushed old new rs ss start list prefix holds e w = grind (arith, map-append
 pub within_pushed : (old new : List ℕ) (rs ss : List (ℕ × ℕ)) (start : ℕ) (list : List ℕ) → IsFrontOf old new
     → Holds new start list
     → ss ≡ rs ++ (start, length list) ∷ [] → AreWithin (length old) rs → AreWithin (length new) ss
-within_pushed old new rs ss start list prefix holds e w = grind (arith, all_push, length_kept, within_more)
+within_pushed old new rs ss start list prefix holds e w = grind (arith, all_by_recursion_push, length_kept, within_more)
 
 -- a list goes on where the positions end
 pub goes_on : (positions new prefix list : List ℕ) (last k : ℕ) → prefix ≡ drop k positions
@@ -78,5 +78,5 @@ pub view_named : (names items : List ℕ) (rs : List (ℕ × ℕ)) (lists : List
 view_named names items rs lists e below =
     let inside = rw (sym e) at below in
     rw (sym e) (ranges_mapped (name_of names) (node_at names) items rs (recursion_from_All _ rs (λ a d h k w.
-    default_same names k k 0 (inside a k (omega (arith, h, length-map rs (range_of items)))
+    get_or_default names k k 0 (inside a k (omega (arith, h, length-map rs (range_of items)))
     (rw (get_or-map (range_of items) rs a d [] h) w)))))
