@@ -8,8 +8,9 @@ pub use Rattle.std.proofs.lemmas.List.{get_or_default, get_or-take, length-take-
 pub use Rattle.std.proofs.lemmas.List.Elements.{Contains-append_left, Contains-get_or, Contains-push, Contains-push_cases, All-contains}
 pub use Rattle.std.proofs.lemmas.List.Folds.{Any-from_list_any, list_any-from_Any, flat_map-map, find_at}
 pub use Rattle.std.proofs.lemmas.List.Sorted.{Contains-permutation, IsPermutation-sym, IsPartitionedBy-leb, IsNonDecreasingBy-from_sort_by_key, answers_always}
+pub use Rattle.std.proofs.lemmas.Result.{IfOk-weaker}
 pub use Rattle.std.specs.List.{AllAdjacentBelow, list_any, position_or_len}
-pub use Rattle.proto_base.proofs.Among.{later_short, least_single, flat_more, each_flat, flat_each, least_nil, each_on, later_map, behind_more, behind_skip, if_ok, each_map, least_append, each_union, least_cons, behind_none, behind_all, flat_all, flat_skip, taken, with_rest}
+pub use Rattle.proto_base.proofs.Among.{later_short, least_single, flat_more, each_flat, flat_each, least_nil, each_on, later_map, behind_more, behind_skip, each_map, least_append, each_union, least_cons, behind_none, behind_all, flat_all, flat_skip, taken, with_rest}
 pub use Rattle.proto_base.proofs.Sets.{LaterTo, one_at, later_clash, later_skip, least_union, least_same, lesser_none, item_at, least_none, at_most_itself, EachTo, each_more, least_known, each_all, least_hit, least_miss, with_more, WithTo, exact_number, later_all, passed_clash, passed_skip, Passed, exact_text, text_cmp, cond_or, cond_right}
 pub use Rattle.proto_base.specs.Least.{IsLeast, spot}
 pub use Rattle.proto_base.specs.Lesser.{IsLesser}

@@ -1,5 +1,5 @@
 -- The least of what the elements of lists and of statements make.
-use Rattle.proto_checks.proofs.Common.{ℕ, ◌+◌, ◌<◌, length, get_or, take, ◌≡◌, List, [], ◌∷◌, inr, arith, false, Some, Option, None, ◌↔◌, flat_map, list_any, IsLeast, StandsAt, ◌∪◌, Each, Spot, flat_more, each_flat, flat_each, least_nil, least_single, at_most_itself, least_none, EachTo, each_more, least_same, least_known, least_union, lesser_none, oneof_field, enum_value, is_oneof_member, is_value, IsLesser, MarkedNumber, MarkedRange}
+use Rattle.proto_checks.proofs.Common.{ℕ, ◌+◌, ◌<◌, length, get_or, take, ◌≡◌, List, [], ◌∷◌, inr, arith, false, Some, Option, None, ◌↔◌, flat_map, list_any, IsLeast, StandsAt, ◌∪◌, Each, Spot, flat_more, each_flat, flat_each, least_single, at_most_itself, least_none, EachTo, each_more, least_same, least_known, least_union, lesser_none, oneof_field, enum_value, is_oneof_member, is_value, IsLesser, MarkedNumber, MarkedRange}
 use Rattle.proto_tree.specs.declared.enumeration.EnumItem.{EnumItem}
 use Rattle.proto_tree.specs.declared.oneof.OneofItem.{OneofItem}
 use Rattle.proto_checks.specs.Lengths.{capped}
@@ -48,8 +48,6 @@ least_left {r = r} h k = least_union h k (lesser_none r)
 pub least_right : {S T : Spot → Type 0} {r : Option Spot} → IsLeast S None → IsLeast T r → IsLeast (S ∪ T) r
 least_right {r = r} h k = least_union h k
     (record { least = least_same _ _ r (λ x w. grind arith) (λ x e. inr e) (least_known r) })
-
-pub ruleset one_kind = (least_left, least_right, least_single, least_nil)
 
 -- what the elements of statements break
 pub least_flat : {X Y : Type 0} (S : Y → Spot → Type 0) (f : X → List Y) (xs : List X) (r : Option Spot)

@@ -1,4 +1,4 @@
-use Rattle.proto_checks.proofs.Common.{◌≡◌, [], arith, common_steps, if_ok}
+use Rattle.proto_checks.proofs.Common.{◌≡◌, [], arith, common_steps, IfOk-weaker}
 use Rattle.proto_options.specs.Options.{bracketed}
 use Rattle.proto_checks.proofs.Settling.{one_least}
 use Rattle.proto_checks.proofs.settings.bracketed_settings_fault.Goals as goal
@@ -9,5 +9,5 @@ returns-then-is_empty c =
     rw (c.in-Some.is, ← c.as_slice.ensures, alone, c.setting_fault.ensures) (one_least _ _)
 
 pub returns : goal.returns
-returns c = if_ok c.settings_fault.result c.settings_fault.ensures
-    (λ first h. h c.args.element (bracketed c.args.options.now) (grind (arith, common_steps)))
+returns c = IfOk-weaker c.settings_fault.result _ _
+    (λ first h. h c.args.element (bracketed c.args.options.now) (grind (arith, common_steps))) c.settings_fault.ensures
