@@ -42,6 +42,3 @@ has_root_first reach root own g = grind (arith, eqb-true, has_filter)
 
 pub all_get : {X : Type 0} (P : X → Type 0) (xs : List X) (j : ℕ) (x : X) → All P xs → slice_get xs j ≡ Some x → P x
 all_get P xs j x h e = subst P (get_or_from_slice_get xs j x x e) (h j x (slice_get_within xs j x e))
-
-pub contains_at : {X : Type 0} (files : List X) (k : ℕ) (g : X) → slice_get files k ≡ Some g → Contains files g
-contains_at files k g at = (k, slice_get_within files k g at, get_or_from_slice_get files k g g at)

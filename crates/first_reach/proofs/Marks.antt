@@ -12,11 +12,11 @@ use Rattle.std.proofs.Math.ListN.{drop_of_length-le}
 use Rattle.share_work.specs.Marks.{MarkSeatValue, at_each, marked_posts}
 use Rattle.share_work.specs.Shares.{AddsSome}
 use Rattle.share_work.proofs.MarkSteps.{each_to, marked_from, marked_to}
-use Rattle.share_work.proofs.Sums.{none_in, in_map, in_flat, of_flat}
+use Rattle.share_work.proofs.Sums.{none_in, contains_at, in_map, in_flat, of_flat}
 use Rattle.share_work.proofs.Together.{HoldTogether}
 use Rattle.first_reach.specs.First.{RootReaches}
 use Rattle.first_reach.specs.Seats.{HasPosted, Posts}
-use Rattle.first_reach.proofs.Lists.{all_get, contains_at}
+use Rattle.first_reach.proofs.Lists.{all_get}
 
 take_under : {X : Type 0} (n : ℕ) (xs : List X) (o : ℕ) (t : X) → slice_get (take n xs) o ≡ Some t
     → (o < n) × (slice_get xs o ≡ Some t)

@@ -2,7 +2,7 @@
 use Rattle.proto_names.proofs.Common.{common_steps, ◌≡◌, ◌∙◌, refl, ℕ, zero, suc, ◌-◌, ◌<◌, Bool, true, not, List, [], ◌∷◌, ◌++◌, length, map, get_or, arith, ◌==◌, All, Contains, IsPermutation, MatchOption, Option, None, Some, filter, flat_map, slice_get, nat_tests, length-map, All-filter, filter_passes, All-permutation, IsPermutation-append, IsPermutation-filter_both, IsPermutation-refl, IsPermutation-sym, IsPermutation-trans, mod_below, gets, same_Some, slice_get-map, slice_get_within, take-append_seam, found_in, get_take, hash_of, services_of, Occurrence, IsNoLater, IsTwice, NoneTwice, NoLater, location_of, AreAllShares, AreInShares, AreSharesOf, IsEarliest, IsSortedOf, all_of, share_at, services_in, share_of, table_of, twice_of, Location}
 use Rattle.std.proofs.lemmas.List.{append-nil}
 use Rattle.share_work.specs.Shares.{GivesItems}
-use Rattle.share_work.proofs.Sums.{in_flat, in_map, of_flat, of_map as of_mapped}
+use Rattle.share_work.proofs.Sums.{contains_at, in_flat, in_map, of_flat, of_map as of_mapped}
 use Rattle.share_work.proofs.Together.{get_there}
 use Rattle.proto_names.specs.Repeated.{IsFirstTwice}
 use Rattle.proto_names.specs.declared.share.Share.{Share}
@@ -13,9 +13,6 @@ use Rattle.proto_names.proofs.Built.{twice_moved}
 
 stands : {X : Type 0} (xs : List X) (x : X) → Contains xs x → (k : ℕ) × (slice_get xs k ≡ Some x)
 stands xs x within = grind (arith, gets)
-
-contained : {X : Type 0} (xs : List X) (k : ℕ) (x : X) → slice_get xs k ≡ Some x → Contains xs x
-contained xs k x at = grind (arith, gets)
 
 -- what stands in a map is made of what stands there
 pub of_map : {X Y : Type 0} (f : X → Y) (xs : List X) (k : ℕ) (y : Y) → slice_get (map f xs) k ≡ Some y
@@ -55,7 +52,7 @@ joined key os (t ∷ ts) within each =
 pub among_all : (tables : List (List Occurrence)) (k : ℕ) (os : List Occurrence) (o : Occurrence)
     → slice_get tables k ≡ Some os → Contains os o
     → Contains (all_of tables) o
-among_all tables k os o at here = in_flat (λ os. os) tables os o (contained tables k os at) here
+among_all tables k os o at here = in_flat (λ os. os) tables os o (contains_at tables k os at) here
 
 pub among_one : (tables : List (List Occurrence)) (k : ℕ) (os : List Occurrence) (o : Occurrence) → AreInShares tables
     → slice_get tables k ≡ Some os
@@ -138,7 +135,7 @@ module _ (os : List Occurrence) (shares : List SortedShare) (are : AreSharesOf o
       let pass : (o : Occurrence) → o.name ≡ b.name → (share_at n o == share_at n b) ≡ true =
       λ o same. rw same (grind (arith, nat_tests)) in
       let here = twice_moved (share_of n (share_at n b) os) s.table sorted.all b (twice_passing os _ b pass twice) in
-      of s here s.twice sorted.twice (in_map twice_of shares s (contained shares (share_at n b) s at))
+      of s here s.twice sorted.twice (in_map twice_of shares s (contains_at shares (share_at n b) s at))
     where
       of : (s : SortedShare) → IsTwice s.table b → (t : Option Location)
           → MatchOption t (NoneTwice s.table) (λ l. IsFirstTwice s.table l.file l.place)

@@ -1,6 +1,7 @@
 -- Members of lists, and sums over the lists of all views.
-use Rattle.share_work.proofs.Common.{append-nil, ◌++◌, ◌≡◌, ℕ, zero, suc, ◌+◌, ◌<◌, ◌≤◌, ◌⊎◌, Bool, true, false, cond, eqb, ◌&&◌, List, [], ◌∷◌, map, set, sym, refl, subst, arith, filter, All, AllPairs, Contains, flat_map, sum_by, count_by, common_steps, cases_Bool, Contains-get_or, Contains-append_left, Contains-append_right, Contains-append_cases, All-contains, All-contains_itself, All-filter, filter_passes, sum_by-cons, sum_by-append, sum_by_push, some, some-injective, some-ne-none, get_elem?, at_set, at_snoc, Call}
+use Rattle.share_work.proofs.Common.{append-nil, ◌++◌, ◌≡◌, ℕ, zero, suc, ◌+◌, ◌<◌, ◌≤◌, ◌⊎◌, Bool, true, false, cond, eqb, ◌&&◌, List, [], ◌∷◌, map, set, sym, refl, subst, arith, filter, All, AllPairs, Contains, flat_map, sum_by, count_by, common_steps, cases_Bool, Contains-get_or, Contains-append_left, Contains-append_right, Contains-append_cases, All-contains, All-contains_itself, All-filter, filter_passes, sum_by-cons, sum_by-append, sum_by_push, some, some-injective, some-ne-none, get_elem?, at_set, at_snoc, Call, Some, slice_get, slice_get_within}
 use Rattle.std.proofs.lemmas.List.Kept.{AllPairs-cons}
+use Rattle.std.proofs.lemmas.Option.{get_or_from_slice_get}
 
 pub none_in : {A : Type 0} (x : A) → Contains {X = A} [] x → ⊥
 none_in x (k, inside, is) = omega (arith, inside)
@@ -28,6 +29,9 @@ pairs_cons R x xs each pairs = AllPairs-cons R x xs (all_of (R x) xs each) pairs
 pub at_in : {A : Type 0} (xs : List A) (i : ℕ) (x : A) → get_elem? xs i ≡ some x → Contains xs x
 at_in (y ∷ ys) (suc i) x e = behind y ys x (at_in ys i x e)
 at_in xs i x e = grind (arith, front, some-injective, some-ne-none)
+
+pub contains_at : {A : Type 0} (xs : List A) (k : ℕ) (x : A) → slice_get xs k ≡ Some x → Contains xs x
+contains_at xs k x at = (k, slice_get_within xs k x at, get_or_from_slice_get xs k x x at)
 
 pub in_map : {A B : Type 0} (f : A → B) (xs : List A) (x : A) → Contains xs x → Contains (map f xs) (f x)
 in_map f xs x h = grind (arith, common_steps)

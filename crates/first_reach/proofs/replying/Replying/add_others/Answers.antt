@@ -1,11 +1,11 @@
 use Rattle.std.proofs.Common.{append_assoc, append-nil, ◌≡◌, Some, length, sym, ◌∙◌, arith, slice_get}
 use Rattle.std.proofs.lemmas.Option.{slice_get_within}
 use Rattle.std.proofs.Math.Seq.{take-length}
-use Rattle.first_reach.proofs.Lists.{contains_at}
 use Rattle.first_reach.proofs.Replies.{others_more}
 use Rattle.first_reach.proofs.replying.Replying.add_others.Goals as goal
 use Rattle.first_reach.proofs.replying.Replying.add_others.Goals.{then-file-root+then-get-position+in_ok-push, else-file-root, else-file-root-via-then-file-root+else-get-position, else-file-root-via-else-file-root}
 use Rattle.share_work.proofs.Paying.{none_past}
+use Rattle.share_work.proofs.Sums.{contains_at}
 
 pub get-requires : goal.get-requires
 get-requires g c =
