@@ -3,7 +3,7 @@ use Rattle.std.proofs.Common.{◌≡◌, ℕ, zero, suc, ◌+◌, ◌<◌, ◌�
 use Rattle.std.proofs.lemmas.Grind.{common_steps}
 use Rattle.std.proofs.lemmas.List.{take_more, append-nil, take_all}
 use Rattle.std.proofs.lemmas.List.Concat.{flat_map-append}
-use Rattle.std.specs.Prelude.{Option, None, Result, IfOk, flat_map}
+use Rattle.std.specs.Prelude.{Option, None, flat_map}
 use Rattle.proto_base.specs.declared.spot.Spot.{Spot}
 use Rattle.proto_base.specs.Least.{IsLeast}
 use Rattle.proto_base.specs.Lesser.{IsLesser}
@@ -116,9 +116,6 @@ each_on f xs S T r on back h = grind (arith, common_steps, least_same, stands_ma
 pub later_short : {X : Type 0} (xs : List X) (R : X → X → Type 0) (at : X → Spot) → length xs < 2
     → IsLeast (Later xs R at) None
 later_short xs R at short = grind arith
-
-pub if_ok : {T E : Type 0} {P Q : T → Type 0} (r : Result T E) → IfOk r P → ((x : T) → P x → Q x) → IfOk r Q
-if_ok r fact turn = grind arith
 
 -- the first element, and those behind it
 pub with_rest : {X Y : Type 0} (S : Y → Spot → Type 0) (f : X → Y) (a : Y) (xs : List X) (n : ℕ) (r : Option Spot)

@@ -1,5 +1,5 @@
 -- Names that are not taken.
-use Rattle.proto_lower.proofs.Common.{◌≡◌, ◌≤◌, ◌<◌, ◌+◌, ℕ, zero, suc, Bool, true, false, cond, List, [], ◌∷◌, ◌++◌, sym, refl, length, arith, subst, if◌then◌else◌, ◌||◌, String, prefix_len, range_with_len, bytes_eq, BTreeSet, contains_text, nat_cmp, list_any-append, nat_tests, first_free, with_underscore, behind_letters, begins_as_made, HoldsTaken}
+use Rattle.proto_lower.proofs.Common.{◌≡◌, ◌≤◌, ◌<◌, ◌+◌, ℕ, zero, suc, Bool, true, false, List, [], ◌∷◌, ◌++◌, sym, refl, length, arith, subst, if◌then◌else◌, ◌||◌, String, prefix_len, range_with_len, bytes_eq, BTreeSet, contains_text, nat_cmp, list_any-append, nat_tests, first_free, with_underscore, behind_letters, begins_as_made, HoldsTaken}
 use Rattle.std.specs.Set.{is_member}
 use Rattle.std.specs.BTreeSet as sorted
 use Rattle.std.specs.declared.alloc.Global.{Global}
@@ -9,10 +9,6 @@ use Rattle.std.specs.Bool.{nat_le}
 use Rattle.std.proofs.lemmas.Map.Text.{btree_set_updates_text}
 use Rattle.std.proofs.lemmas.Slice.Eq.{bytes_eq-Decides}
 use Rattle.std.proofs.Math.Bool.{or-false}
-
--- one more name
-pub or_by : (a b : Bool) → cond a true b ≡ (b || a)
-or_by a b = grind arith
 
 swapped : (xs ys : List ℕ) → bytes_eq xs ys ≡ bytes_eq ys xs
 swapped xs ys = grind (arith, bytes_eq-Decides xs ys, bytes_eq-Decides ys xs)

@@ -1,15 +1,12 @@
 -- The indexes of the oneofs of fields.
-use Rattle.proto_lower.proofs.Common.{◌≡◌, refl, ◌≤◌, ◌<◌, ◌+◌, ◌++◌, ℕ, Bool, true, false, List, [], ◌∷◌, map, arith, Option, Some, None, flat_map, cond, nat_tests, MessageItem, FieldDesc, is_optional, member_at, real_count, fields_from, has_index, fields_in, oneof_field}
+use Rattle.proto_lower.proofs.Common.{◌≡◌, refl, ◌≤◌, ◌<◌, ◌+◌, ◌++◌, ℕ, Bool, true, false, List, [], ◌∷◌, map, arith, Option, Some, flat_map, cond, nat_tests, MessageItem, FieldDesc, is_optional, member_at, real_count, fields_from, has_index, fields_in, oneof_field}
 use Rattle.std.specs.Prelude.{⊤}
 use Rattle.proto_tree.specs.declared.message.MessageItem as message_item
 use Rattle.proto_tree.specs.declared.oneof.OneofItem.{OneofItem}
 use Rattle.proto_tree.specs.declared.oneof.OneofItem.TheVariants as oneof_item
 use Rattle.proto_lower.proofs.MadeOneofs.{made_count, made_count-cons}
 
--- the index of the oneof that a field makes, if it makes one, and how many it makes
-abbrev pub made_index : Bool → ℕ → Option ℕ
-made_index b next = cond b (Some next) None
-
+-- how many oneofs a field makes
 abbrev pub made_by : Bool → ℕ
 made_by b = cond b 1 0
 

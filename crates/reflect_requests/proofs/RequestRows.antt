@@ -1,5 +1,5 @@
 -- What reading a request keeps, over its list of fields.
-use Rattle.std.proofs.Common.{◌≡◌, ℕ, ◌<◌, List, [], ◌∷◌, length, drop, map, get_or, arith}
+use Rattle.std.proofs.Common.{◌≡◌, ℕ, ◌<◌, List, [], length, drop, map, get_or, arith}
 use Rattle.std.specs.List.{filter_map, AllByRecursion}
 use Rattle.std.proofs.lemmas.List.{drop_more}
 use Rattle.wire_format.specs.Reading.{Value, IsRow}
@@ -11,13 +11,6 @@ use Rattle.reflect_requests.specs.Request.{Ask, nothing, host_of, member_of, las
 pub record Left {X : Type 0} (P : X → Type 0) (xs rest : List X) : Type 0 where
   pub ahead : AllByRecursion P rest → AllByRecursion P xs
   pub back : AllByRecursion P xs → AllByRecursion P rest
-
-pub left_first : {X : Type 0} (P : X → Type 0) (xs : List X) → Left P xs xs
-left_first P xs = record { ahead = λ all. all; back = λ all. all }
-
-pub left_next : {X : Type 0} (P : X → Type 0) (xs : List X) (x : X) (rest : List X) → P x → Left P xs (x ∷ rest)
-    → Left P xs rest
-left_next P xs x rest here left = record { ahead = λ all. left.ahead (here, all); back = λ all. (left.back all).1 }
 
 pub left_here : {X Y : Type 0} (P : Y → Type 0) (view : X → Y) (all : List Y) (xs : List X) (i : ℕ) (d : X)
     → i < length xs → Left P all (map view (drop i xs))
