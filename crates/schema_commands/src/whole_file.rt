@@ -24,7 +24,7 @@ const PRIVATE: u32 = 0o600;
 
 /// What a path leads to.
 #[derive(Drop)]
-enum Target {
+enum Destination {
     /// The standard output of this process.
     StandardOutput,
     /// A terminal, a pipe, /dev/null: what is written to where it stands.
@@ -108,33 +108,37 @@ fn look_at<R: Files>(rt: &R, path: &str) -> io::Result<Option<FileType>> {
 
 /// What is behind a link that shows what a process has open. A file is refused, but for standard output: from where on it
 /// is written only its own descriptor knows.
-fn target_of_open<R>(rt: &R, link: Path<'_>, found: Option<FileType>) -> io::Result<Target>
+fn destination_of_open<R>(
+    rt: &R,
+    link: Path<'_>,
+    found: Option<FileType>,
+) -> io::Result<Destination>
 where
     R: Files + AllocGlobal,
 {
     if is_standard_output(rt, link)? {
-        return Ok(Target::StandardOutput);
+        return Ok(Destination::StandardOutput);
     }
     match found {
-        Some(found) if !found.is_file() => Ok(Target::Device),
+        Some(found) if !found.is_file() => Ok(Destination::Device),
         _ => Err(io::Error::from(ErrorKind::Unsupported)),
     }
 }
 
 /// What a path leads to.
-fn target_of<R>(rt: &R, path: &str) -> io::Result<Target>
+fn destination_of<R>(rt: &R, path: &str) -> io::Result<Destination>
 where
     R: Files + AllocGlobal,
 {
     let found = look_at(rt, path)?;
     let followed = follow_links(rt, path)?;
     if is_link(rt, followed.as_path()) {
-        return target_of_open(rt, followed.as_path(), found);
+        return destination_of_open(rt, followed.as_path(), found);
     }
     match found {
-        None => Ok(Target::Free(followed)),
-        Some(found) if found.is_file() => Ok(Target::File(followed)),
-        Some(_) => Ok(Target::Device),
+        None => Ok(Destination::Free(followed)),
+        Some(found) if found.is_file() => Ok(Destination::File(followed)),
+        Some(_) => Ok(Destination::Device),
     }
 }
 
@@ -265,11 +269,11 @@ where
     ensures { IsSetRun (Some path.entry) (O.writes writer.old) (O.writes writer.new)
         (set_of set.old.compiled.now.files set.old.compiled.now.links) result }
 {
-    let written = match target_of(rt, path) {
-        Ok(Target::StandardOutput) => return set.write(writer),
-        Ok(Target::Device) => write_device(rt, path, set),
-        Ok(Target::File(file)) => rewrite(rt, file.as_path(), set),
-        Ok(Target::Free(free)) => replace(rt, free.as_path(), set, None),
+    let written = match destination_of(rt, path) {
+        Ok(Destination::StandardOutput) => return set.write(writer),
+        Ok(Destination::Device) => write_device(rt, path, set),
+        Ok(Destination::File(file)) => rewrite(rt, file.as_path(), set),
+        Ok(Destination::Free(free)) => replace(rt, free.as_path(), set, None),
         Err(error) => Err(error),
     };
     match written {
