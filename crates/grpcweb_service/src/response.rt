@@ -1,6 +1,6 @@
 //! The answers of reflection, as responses of `http`.
 
-ghost use Rattle.std.specs.Prelude.{◌≡◌, ◌+◌, ◌/◌, min};
+ghost use Rattle.std.specs.Prelude.{◌≡◌, ◌+◌, ◌-◌, ◌*◌, ◌/◌, ◌^◌, min};
 
 use grpcweb_core::{HttpAnswer, Mode, respond};
 use http::{HeaderName, HeaderValue, Request, Response, StatusCode, header};
@@ -9,16 +9,19 @@ use share_work::{Gate, Plan};
 use std::alloc::{AllocError, AllocGlobal, Global};
 use std::thread::Threads;
 
-/// So many bytes of a body are worth a worker: fewer are answered sooner than its thread starts (bench/RESULTS.md).
-const WORTH_A_WORKER: usize = 524_288;
+/// So many bytes of a body, each counted once for each file of the compilation, are worth a worker: fewer are answered
+/// sooner than its thread starts (bench/RESULTS.md).
+const WORTH_A_WORKER: usize = 1 << 30;
 
-/// As many workers as a body of so many bytes is worth, up to those of a plan. They change no byte of an answer.
-fn plan_for(plan: Plan, len: usize) -> Plan
-    ensures workers { result.workers ≡ min plan.workers (1 + len / 524_288) }
+/// As many workers as a body of so many bytes is worth, where a request may reach so many files, up to those of a plan.
+/// They change no byte of an answer.
+fn plan_for(plan: Plan, len: usize, files: usize) -> Plan
+    ensures workers { result.workers
+        ≡ min plan.workers (1 + min (len * files) (2 ^ 64 - 1) / 1_073_741_824) }
     ensures cut { result.cut ≡ plan.cut }
 {
-    let worth = (1 + len / WORTH_A_WORKER).min(plan.workers() as usize);
-    Plan::new(worth as u32, plan.cut()).unwrap_or(plan)
+    let worth = 1 + len.saturating_mul(files) / WORTH_A_WORKER;
+    Plan::new(worth.min(plan.workers() as usize) as u32, plan.cut()).unwrap_or(plan)
 }
 
 fn put_header(
@@ -71,7 +74,7 @@ where
     let answer = respond(
         rt,
         compiled,
-        plan_for(plan, request.body().len()),
+        plan_for(plan, request.body().len(), compiled.links().count()),
         gate,
         mode,
         request.method().as_str(),
