@@ -153,7 +153,7 @@ where
 }
 
 /// Calls on what sources are compiled to, by their names.
-type Named = &'static [(&'static str, OnCompiled)];
+type NamedCalls = &'static [(&'static str, OnCompiled)];
 
 static SET: [(&str, OnCompiled); 1] = [("set_bytes", OnCompiled::SetBytes)];
 
@@ -166,7 +166,12 @@ static ANSWERS: [(&str, OnCompiled); 3] = [
 ];
 
 /// Makes calls on a compilation.
-fn calls_on_compiled<R>(rt: &R, console: &HostRuntime, compiled: &Compiled, calls: Named) -> bool
+fn calls_on_compiled<R>(
+    rt: &R,
+    console: &HostRuntime,
+    compiled: &Compiled,
+    calls: NamedCalls,
+) -> bool
 where
     R: Threads + Files + AllocGlobal + Sync,
 {
@@ -182,7 +187,7 @@ fn calls_on_sources<R>(
     rt: &R,
     console: &HostRuntime,
     sources: &[Source<'static>],
-    calls: Named,
+    calls: NamedCalls,
 ) -> bool
 where
     R: Threads + Files + AllocGlobal + Sync,

@@ -5,6 +5,7 @@ ghost use Rattle.std.specs.Prelude.{◌≡◌, ◌<◌, All, IfSome, length};
 use crate::answers::{Answer, answer_of};
 use share_samples::posting::{Posting, join_seats, two_seats};
 use share_samples::two_files::Two;
+use share_work::phases::UNGATED;
 use share_work::{LeastSeat, LeastTable, MarkSeat, MarkTable, NONE, NoGate, Plan, in_shares};
 use std::alloc::{AllocError, AllocGlobal, Global};
 use std::thread::Threads;
@@ -30,7 +31,7 @@ fn are_given<R: Threads + AllocGlobal + Sync>(
     };
     let refused = UNPOSTED;
     let work = Posting { table, refused };
-    match in_shares(rt, plan, 1, &NoGate, &NUMBERS, &work, seats) {
+    match in_shares(rt, plan, UNGATED, &NoGate, &NUMBERS, &work, seats) {
         Ok(outs) => answer_of(outs.as_slice() == NUMBERS.as_slice()),
         Err(AllocError) => Answer::NoMemory,
     }

@@ -4,6 +4,7 @@ ghost use Rattle.std.specs.Prelude.{⊤, ◌≡◌, ◌<◌, All, length};
 
 use super::least_tables::closed;
 use share_samples::posting::{Posting, join_seats, two_seats};
+use share_work::phases::UNGATED;
 use share_work::{
     Gate, ItemWork, LeastSeat, LeastTable, NoGate, Plan, Work, each_in_shares, in_shares,
 };
@@ -290,7 +291,7 @@ fn post_in_shares<R: Threads + AllocGlobal + Abort + Sync>(
 {
     let plan = Plan::new(2, 1).expect(rt, "a plan");
     let work = Posting { table, refused };
-    let outs = in_shares(rt, plan, 1, &NoGate, &[9, 3, 5], &work, seats);
+    let outs = in_shares(rt, plan, UNGATED, &NoGate, &[9, 3, 5], &work, seats);
     assert!(rt; outs.is_err() == (refused < 100));
 }
 
