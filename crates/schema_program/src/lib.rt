@@ -2,6 +2,5 @@
 #![tactic(auto)]
 
 mod program;
-mod serving;
 
 pub use program::run;

@@ -5,7 +5,6 @@ ghost use Rattle.std.specs.Result.{result_ok};
 ghost use Rattle.schema_failure.specs.Statuses.{status_after};
 ghost use Rattle.schema_program.specs.Performed.{IsEndOf, IsPerformed, IsRun, IsUsageRun, sound_of};
 
-use crate::serving::run_serve;
 use clap::Error;
 use clap::error::ErrorKind;
 use grpcweb_core::{CountedRead, CountedWrite, write_bytes};
@@ -14,6 +13,7 @@ use schema_check::run_check;
 use schema_command_line::{Selection, Task, task_of};
 use schema_commands::{run_answer, run_compile, run_describe, run_explain};
 use schema_failure::{ExitStatus, Failure, Verdict, write_failure};
+use schema_serve::run_serve;
 use schema_sources::{SystemFolder, trouble_of};
 use std::alloc::{AllocGlobal, Global};
 use std::io::Write;

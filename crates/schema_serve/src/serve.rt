@@ -1,4 +1,4 @@
-//! The command `serve`.
+//! What a run of `serve` does.
 
 ghost use Rattle.std.specs.Prelude.{◌-◌, ◌<◌, ◌^◌};
 
@@ -31,8 +31,10 @@ where
     Ok((runtime, listener))
 }
 
-/// Serves reflection over the sources of a folder.
-pub(crate) fn run_serve<R, F, O>(
+/// Serves reflection over the sources of a folder at an address and port, and writes `listening on ADDRESS:PORT` first. It ends
+/// after so many connections, where their count is given. It fails with the first fault of the sources, with `Failure::Listen`
+/// where it cannot listen there, and with what ends the service.
+pub fn run_serve<R, F, O>(
     rt: &R,
     folder: &F,
     listen: &str,
