@@ -11,7 +11,7 @@ ghost use Rattle.proto_compile.specs.Sources.{AreByName};
 ghost use Rattle.proto_compile.specs.declared.source.Source.{Source};
 
 use proto_base::{Fault, FileError, FileFault, Limits};
-use proto_compile::{LOCAL, Source};
+use proto_compile::{LOCAL_PASS, Source};
 use proto_file::describe;
 use share_work::phases::DESCRIBING;
 use share_work::{Gate, ItemWork, Plan, each_in_shares};
@@ -54,7 +54,7 @@ fn named(alloc: Global, name: &str, found: FileFault) -> Result<Fault, AllocErro
     ensures { IfOk result (λ fault. told_by fault ≡ source_fault 1 name.now found) }
 {
     Ok(Fault {
-        pass: LOCAL,
+        pass: LOCAL_PASS,
         file: String::from_str(alloc, name)?,
         step: found.step,
         place: found.spot.place,

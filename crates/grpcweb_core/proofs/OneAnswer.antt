@@ -1,15 +1,15 @@
 -- A request over HTTP has one answer.
 use Rattle.std.proofs.Common.{◌≡◌, ap, refl, List}
 use Rattle.first_reach.specs.declared.mode.Mode.{Mode}
-use Rattle.grpcweb_core.specs.Http.{Answer, IsAnswer, Request, answered, elsewhere, framed, no_grpc_web, no_post}
+use Rattle.grpcweb_core.specs.Http.{AnswerOverHttp, IsAnswerOverHttp, RequestOverHttp, answered, elsewhere, framed, no_grpc_web, no_post}
 use Rattle.proto_base.specs.declared.limits.Limits.{Limits}
 use Rattle.proto_compile.specs.Compilation.{Compilation, IsCompiled}
 use Rattle.proto_compile.specs.declared.source.Source.{Source}
 use Rattle.reflect_core.proofs.OneResponse.{is_one, one_response}
 
-module _ (limits : Limits) (sources : List Source) (c d : Compilation) (mode : Mode) (request : Request) where
-  pub one_answer : (a b : Answer) → IsCompiled limits sources c → IsCompiled limits sources d
-      → IsAnswer mode c request a → IsAnswer mode d request b → a ≡ b
+module _ (limits : Limits) (sources : List Source) (c d : Compilation) (mode : Mode) (request : RequestOverHttp) where
+  pub one_answer : (a b : AnswerOverHttp) → IsCompiled limits sources c → IsCompiled limits sources d
+      → IsAnswerOverHttp mode c request a → IsAnswerOverHttp mode d request b → a ≡ b
   one_answer _ _ of too (elsewhere out) (elsewhere _) = refl
   one_answer _ _ of too (elsewhere out) (no_post here _) = absurd (out here)
   one_answer _ _ of too (elsewhere out) (no_grpc_web here _ _) = absurd (out here)

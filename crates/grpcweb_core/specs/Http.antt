@@ -44,45 +44,46 @@ abbrev pub IsGrpcWebIfAny : Option (List ℕ) → Type 0
 IsGrpcWebIfAny None = ⊥
 IsGrpcWebIfAny (Some text) = IsGrpcWeb text
 
-pub record Request : Type 0 where
+pub record RequestOverHttp : Type 0 where
   pub method : List ℕ
   pub target : List ℕ
   pub content_type : Option (List ℕ)
   pub body : List ℕ
 
-pub record Answer : Type 0 where
+pub record AnswerOverHttp : Type 0 where
   pub status : ℕ
   pub headers : List (List ℕ × List ℕ)
   pub body : List ℕ
 
 -- a response in frames
-abbrev pub framed : List ℕ → Answer
+abbrev pub framed : List ℕ → AnswerOverHttp
 framed body =
     record { status = 200; headers = (codes "content-type", codes "application/grpc-web+proto") ∷ []; body = body }
 
 -- trailers of the status 12, UNIMPLEMENTED, alone
-abbrev pub no_such_service : Answer
+abbrev pub no_such_service : AnswerOverHttp
 no_such_service = framed (frame 128 (trailer 12))
 
-abbrev pub method_not_allowed : Answer
+abbrev pub method_not_allowed : AnswerOverHttp
 method_not_allowed = record { status = 405; headers = (codes "allow", codes "POST") ∷ []; body = [] }
 
-abbrev pub unsupported_media_type : Answer
+abbrev pub unsupported_media_type : AnswerOverHttp
 unsupported_media_type = record { status = 415; headers = []; body = [] }
 
 -- the answer to a request: its path is judged first, then its method, then its content type
-pub data IsAnswer (mode : Mode) (c : Compilation) (request : Request) : Answer → Type 0 where
-  elsewhere : (IsReflection request.target → ⊥) → IsAnswer mode c request no_such_service
-  no_post : IsReflection request.target → request.method ≢ codes "POST" → IsAnswer mode c request method_not_allowed
+pub data IsAnswerOverHttp (mode : Mode) (c : Compilation) (request : RequestOverHttp) : AnswerOverHttp → Type 0 where
+  elsewhere : (IsReflection request.target → ⊥) → IsAnswerOverHttp mode c request no_such_service
+  no_post : IsReflection request.target → request.method ≢ codes "POST"
+      → IsAnswerOverHttp mode c request method_not_allowed
   no_grpc_web : IsReflection request.target → request.method ≡ codes "POST" → (IsGrpcWebIfAny request.content_type → ⊥)
-      → IsAnswer mode c request unsupported_media_type
+      → IsAnswerOverHttp mode c request unsupported_media_type
   answered : (response : List ℕ) → IsReflection request.target → request.method ≡ codes "POST"
       → IsGrpcWebIfAny request.content_type → IsResponse mode c request.body response
-      → IsAnswer mode c request (framed response)
+      → IsAnswerOverHttp mode c request (framed response)
 
 -- an answer of the program
-abbrev pub answer_of : HttpAnswer → Answer
-answer_of answer = record {
+abbrev pub answer_over_http : HttpAnswer → AnswerOverHttp
+answer_over_http answer = record {
   status = answer.status;
   headers =
       map (λ header. (header.0.now, header.1.now)) answer.headers.items;

@@ -1,7 +1,7 @@
 //! The answer to a request over HTTP.
 
 ghost use Rattle.std.specs.Prelude.{◌≡◌, ◌↔◌, IfOk, IsTrue, codes, option_map};
-ghost use Rattle.grpcweb_core.specs.Http.{IsAnswer, IsGrpcWebIfAny, answer_of, framed, method_not_allowed, unsupported_media_type};
+ghost use Rattle.grpcweb_core.specs.Http.{IsAnswerOverHttp, IsGrpcWebIfAny, answer_over_http, framed, method_not_allowed, unsupported_media_type};
 
 use crate::content_type::is_grpc_web;
 use crate::target::is_reflection;
@@ -38,7 +38,7 @@ fn is_accepted(content_type: Option<&str>) -> bool
 
 /// A response in frames.
 fn in_frames(alloc: Global, body: Vec<u8>) -> Result<HttpAnswer, AllocError>
-    ensures { IfOk result (λ answer. answer_of answer ≡ framed body.items) }
+    ensures { IfOk result (λ answer. answer_over_http answer ≡ framed body.items) }
 {
     let headers = vec![in alloc; ("content-type", "application/grpc-web+proto")]?;
     Ok(HttpAnswer {
@@ -50,7 +50,7 @@ fn in_frames(alloc: Global, body: Vec<u8>) -> Result<HttpAnswer, AllocError>
 
 /// What a method other than `POST` is answered.
 fn not_allowed(alloc: Global) -> Result<HttpAnswer, AllocError>
-    ensures { IfOk result (λ answer. answer_of answer ≡ method_not_allowed) }
+    ensures { IfOk result (λ answer. answer_over_http answer ≡ method_not_allowed) }
 {
     let headers = vec![in alloc; ("allow", "POST")]?;
     Ok(HttpAnswer {
@@ -62,7 +62,7 @@ fn not_allowed(alloc: Global) -> Result<HttpAnswer, AllocError>
 
 /// What a body of another content type is answered.
 fn unsupported(alloc: Global) -> HttpAnswer
-    ensures { answer_of result ≡ unsupported_media_type }
+    ensures { answer_over_http result ≡ unsupported_media_type }
 {
     HttpAnswer {
         status: 415,
@@ -93,13 +93,13 @@ pub fn respond<R, G>(
 where
     R: Threads + AllocGlobal + Sync,
     G: Gate + Sync,
-    ensures { IfOk result (λ answer. IsAnswer mode compiled.now
+    ensures { IfOk result (λ answer. IsAnswerOverHttp mode compiled.now
         record {
           method = method.now;
           target = target.now;
           content_type = option_map (λ text. text.now) content_type.entry;
           body = body.now;
-        } (answer_of answer)) }
+        } (answer_over_http answer)) }
 {
     let alloc = rt.alloc();
     if !is_reflection(target) {

@@ -15,7 +15,7 @@ use Rattle.proto_desc.specs.declared.enumeration.EnumDesc.{EnumDesc}
 use Rattle.proto_desc.specs.declared.enumeration.ValueDesc.{ValueDesc}
 use Rattle.proto_desc.specs.declared.field.FieldDesc.{FieldDesc}
 use Rattle.proto_desc.specs.declared.file.FileDesc.{FileDesc}
-use Rattle.proto_desc.specs.declared.file.ImportDesc.{ImportDesc}
+use Rattle.proto_desc.specs.declared.file.ImportDescriptor.{ImportDescriptor}
 use Rattle.proto_desc.specs.declared.message.MessageDesc.{MessageDesc}
 use Rattle.proto_desc.specs.declared.message.MessageDesc.TheOpen.{MessageDesc-F}
 use Rattle.proto_desc.specs.declared.message.MessageDesc.TheFolds.{fold-MessageDesc}
@@ -37,10 +37,10 @@ NotProto3Syntax s x = (joined s.version ≢ codes "proto3") × (x ≡ spot s.ver
 abbrev pub PackageTwice : List Package → Spot → Type 0
 PackageTwice ps = Later ps (λ p q. Unit {0}) (λ q. spot q.keyword.start kind.PackageTwice)
 
-abbrev pub import_mark : ImportDesc → Marked
+abbrev pub import_mark : ImportDescriptor → Marked
 import_mark i = record { text = i.path; place = i.place }
 
-abbrev pub ImportTwice : List ImportDesc → Spot → Type 0
+abbrev pub ImportTwice : List ImportDescriptor → Spot → Type 0
 ImportTwice is = TextTwice kind.ImportTwice (map import_mark is)
 
 -- names and full names

@@ -12,6 +12,7 @@ ghost use Rattle.proto_base.specs.Sets.{Each};
 use crate::each::{Check, first_of};
 use crate::enumeration::enum_fault;
 use crate::field_options::{field_options_fault, is_packed_type, is_repeated, is_wide};
+use crate::least::least_of;
 use crate::numbers::first_field_number_fault;
 use crate::oneof::oneof_fault;
 use crate::settings::statement_settings_fault;
@@ -51,7 +52,7 @@ fn oneof_item_fault(alloc: Global, oneof: &Oneof) -> Result<Option<Spot>, AllocE
 {
     let own = oneof_fault(alloc, oneof)?;
     let members = first_of(alloc, oneof.items.as_slice())?;
-    Ok(lesser(members, own))
+    Ok(least_of(&[members, own]))
 }
 
 impl Check for MessageItem<'_> {
@@ -80,8 +81,7 @@ fn body_fault(alloc: Global, items: &[MessageItem]) -> Result<Option<Spot>, Allo
     let numbers = first_field_number_fault(alloc, items)?;
     let own = statement_settings_fault(alloc, Element::Message, items)?;
     let elements = first_of(alloc, items)?;
-    let alone = lesser(numbers, own);
-    Ok(lesser(alone, elements))
+    Ok(least_of(&[numbers, own, elements]))
 }
 
 /// The first fault of the statements of a message and of the messages within it.

@@ -9,9 +9,10 @@ ghost use Rattle.proto_base.specs.Least.{IsLeast};
 ghost use Rattle.proto_base.specs.Sets.{Each};
 
 use crate::each::{Check, first_of};
+use crate::least::least_of;
 use crate::numbers::first_enum_number_fault;
 use crate::settings::{bracketed_settings_fault, statement_settings_fault};
-use proto_base::{Kind, Spot, lesser};
+use proto_base::{Kind, Spot};
 use proto_desc::rules::Element;
 use proto_tree::{Enum, EnumItem, EnumValue};
 use std::alloc::{AllocError, Global};
@@ -61,7 +62,5 @@ pub(crate) fn enum_fault(alloc: Global, declared: &Enum) -> Result<Option<Spot>,
     let numbers = first_enum_number_fault(alloc, items)?;
     let own = statement_settings_fault(alloc, Element::Enum, items)?;
     let values = first_of(alloc, items)?;
-    let first = lesser(empty, numbers);
-    let first = lesser(first, own);
-    Ok(lesser(first, values))
+    Ok(least_of(&[empty, numbers, own, values]))
 }

@@ -7,6 +7,7 @@ ghost use Rattle.proto_checks.specs.Options.{is_packed_type, is_wide, is_repeate
 ghost use Rattle.proto_checks.specs.Parts.{IsWrongOnField};
 ghost use Rattle.proto_base.specs.Sets.{Each};
 
+use crate::least::least_of;
 use crate::options::{choice_of_value, is_true, name_place};
 use crate::settings::bracketed_settings_fault;
 use proto_base::scalar_type::ScalarType;
@@ -94,7 +95,7 @@ fn field_setting_fault(
 {
     let packed = packed_fault(can_be_packed, setting);
     let jstype = jstype_fault(is_wide_integer, setting);
-    lesser(packed, jstype)
+    least_of(&[packed, jstype])
 }
 
 fn bracketed_fault(can_be_packed: bool, is_wide_integer: bool, options: &Options) -> Option<Spot>
@@ -124,5 +125,5 @@ pub(crate) fn field_options_fault(
     };
     let on_field = bracketed_fault(can_be_packed, is_wide_integer, options);
     let own = bracketed_settings_fault(alloc, Element::Field, &declarator.options)?;
-    Ok(lesser(on_field, own))
+    Ok(least_of(&[on_field, own]))
 }

@@ -12,6 +12,7 @@ ghost use Rattle.proto_base.specs.Sets.{Each};
 use crate::body::message_fault;
 use crate::each::{Check, first_of};
 use crate::enumeration::enum_fault;
+use crate::least::least_of;
 use crate::lengths::first_length_fault;
 use crate::marks::{HasText, MarkedText};
 use crate::package::{package_lengths_fault, package_twice};
@@ -19,7 +20,7 @@ use crate::repeats::first_text_twice;
 use crate::service::service_fault;
 use crate::settings::statement_settings_fault;
 use proto_base::{Kind, Limits, Place, Spot, lesser};
-use proto_desc::file::{FileDesc, ImportDesc};
+use proto_desc::file::{FileDesc, ImportDescriptor};
 use proto_desc::rules::Element;
 use proto_tree::text::joined;
 use proto_tree::{FileTree, Statement, Syntax};
@@ -39,7 +40,7 @@ fn syntax_fault(alloc: Global, syntax: &Syntax) -> Result<Option<Spot>, AllocErr
 }
 
 /// The text of an import is its path.
-impl<'s> HasText for ImportDesc<'s> {
+impl<'s> HasText for ImportDescriptor<'s> {
     ghost mark = { import_mark };
 
     fn marked_text(&self) -> MarkedText<'_> {
@@ -59,9 +60,7 @@ fn head_fault(alloc: Global, tree: &FileTree, desc: &FileDesc) -> Result<Option<
     let package = package_twice(statements);
     let import = first_text_twice(alloc, Kind::ImportTwice, desc.imports.as_slice())?;
     let own = statement_settings_fault(alloc, Element::File, statements)?;
-    let first = lesser(syntax, package);
-    let first = lesser(first, import);
-    Ok(lesser(first, own))
+    Ok(least_of(&[syntax, package, import, own]))
 }
 
 impl Check for Statement<'_> {
@@ -85,7 +84,7 @@ fn names_fault(alloc: Global, desc: &FileDesc) -> Result<Option<Spot>, AllocErro
 {
     let messages = first_of(alloc, desc.messages.as_slice())?;
     let enums = first_of(alloc, desc.enums.as_slice())?;
-    Ok(lesser(messages, enums))
+    Ok(least_of(&[messages, enums]))
 }
 
 /// The length of the scope of what stands at the top of a file.
@@ -111,7 +110,7 @@ fn lengths_fault(limits: &Limits, statements: &[Statement], desc: &FileDesc) -> 
 {
     let packages = package_lengths_fault(limits, statements);
     let declared = declared_lengths_fault(limits, desc);
-    lesser(packages, declared)
+    least_of(&[packages, declared])
 }
 
 fn file_fault(
@@ -127,9 +126,7 @@ fn file_fault(
     let elements = first_of(alloc, statements)?;
     let names = names_fault(alloc, desc)?;
     let lengths = lengths_fault(limits, statements, desc);
-    let first = lesser(head, elements);
-    let first = lesser(first, names);
-    Ok(lesser(first, lengths))
+    Ok(least_of(&[head, elements, names, lengths]))
 }
 
 /// The first rule that a file breaks, and the place where it does; of those at one place, the one of the least kind.

@@ -12,6 +12,7 @@ mod enumeration;
 mod field_options;
 mod file;
 mod gathered;
+mod least;
 mod lengths;
 mod marks;
 mod names;

@@ -7,6 +7,7 @@ ghost use Rattle.proto_base.specs.Least.{IsLeast};
 ghost use Rattle.proto_base.specs.Sets.{Each};
 
 use crate::each::{Check, first_of};
+use crate::least::least_of;
 use crate::marks::{HasText, MarkedText};
 use crate::repeats::first_text_twice;
 use crate::reserved_names::first_reserved_name;
@@ -59,8 +60,7 @@ fn own_names_fault(
     let json = first_text_twice(alloc, Kind::JsonNameTwice, fields)?;
     let field = first_reserved_name(alloc, reserved, fields)?;
     let value = first_of(alloc, enums)?;
-    let first = lesser(json, field);
-    Ok(lesser(first, value))
+    Ok(least_of(&[json, field, value]))
 }
 
 /// The first fault of the names of a message and of the messages within it.

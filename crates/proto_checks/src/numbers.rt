@@ -14,11 +14,12 @@ use crate::gathered::{
     FIELD_MAX, Literal, VALUE_MAX, VALUE_MIN, VALUE_ZERO, field_numbers, marked_bounds,
     marked_ranges, value_numbers,
 };
+use crate::least::least_of;
 use crate::marks::{MarkedNumber, MarkedRange};
 use crate::ranges::{first_backwards, first_overlap, first_reserved_number};
 use crate::repeats::first_number_twice;
 use crate::reserved_names::{first_reserved_twice, reserved_names};
-use proto_base::{Kind, Spot, lesser};
+use proto_base::{Kind, Spot};
 use proto_options::{Reserves, ranges_listed};
 use proto_tree::{EnumItem, MessageItem};
 use std::alloc::{AllocError, Global};
@@ -32,8 +33,8 @@ fn first_range_fault(
 {
     let used = first_reserved_number(alloc, ranges, numbers)?;
     let overlap = first_overlap(alloc, ranges)?;
-    let first = lesser(used, overlap);
-    Ok(lesser(first, first_backwards(ranges)))
+    let backwards = first_backwards(ranges);
+    Ok(least_of(&[used, overlap, backwards]))
 }
 
 /// The first rule that the numbers of a message's fields break among themselves.
@@ -45,7 +46,7 @@ fn first_own_field_number_fault(
 {
     let number = first_no_field_number(numbers);
     let twice = first_number_twice(alloc, Kind::FieldNumberTwice, numbers)?;
-    Ok(lesser(number, twice))
+    Ok(least_of(&[number, twice]))
 }
 
 /// The first rule that the ranges which statements reserve break, and the numbers in use with them. The bounds of ranges
@@ -72,7 +73,7 @@ where
     let bound = first_outside(least, greatest, kind, &bounds);
     let ranges = marked_ranges(alloc, &listed, greatest)?;
     let range = first_range_fault(alloc, &ranges, numbers)?;
-    Ok(lesser(bound, range))
+    Ok(least_of(&[bound, range]))
 }
 
 /// The first rule on numbers that the statements of a message break.
@@ -88,8 +89,7 @@ pub(crate) fn first_field_number_fault(
     let range = first_reserved_range_fault(alloc, items, &numbers, 1, FIELD_MAX, kind)?;
     let names = reserved_names(alloc, items)?;
     let name = first_reserved_twice(alloc, &names)?;
-    let first = lesser(own, range);
-    Ok(lesser(first, name))
+    Ok(least_of(&[own, range, name]))
 }
 
 /// The first value, where it is not 0.
@@ -133,8 +133,7 @@ fn first_own_value_number_fault(
     let zero = first_not_zero(numbers);
     let number = first_outside(VALUE_MIN, VALUE_MAX, Kind::EnumNumberRange, numbers);
     let twice = first_value_twice(alloc, items, numbers)?;
-    let first = lesser(zero, number);
-    Ok(lesser(first, twice))
+    Ok(least_of(&[zero, number, twice]))
 }
 
 /// The first rule on numbers that the statements of an enum break.
@@ -150,6 +149,5 @@ pub(crate) fn first_enum_number_fault(
     let range = first_reserved_range_fault(alloc, items, &numbers, VALUE_MIN, VALUE_MAX, kind)?;
     let names = reserved_names(alloc, items)?;
     let name = first_reserved_twice(alloc, &names)?;
-    let first = lesser(own, range);
-    Ok(lesser(first, name))
+    Ok(least_of(&[own, range, name]))
 }

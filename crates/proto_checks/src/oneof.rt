@@ -6,8 +6,9 @@ ghost use Rattle.proto_checks.specs.Elements.{IsEmptyOneof, OneofBreaks};
 ghost use Rattle.proto_checks.specs.Parts.{is_oneof_member};
 ghost use Rattle.proto_base.specs.Least.{IsLeast};
 
+use crate::least::least_of;
 use crate::settings::statement_settings_fault;
-use proto_base::{Kind, Spot, lesser};
+use proto_base::{Kind, Spot};
 use proto_desc::rules::Element;
 use proto_tree::{Oneof, OneofItem};
 use std::alloc::{AllocError, Global};
@@ -37,5 +38,5 @@ pub(crate) fn oneof_fault(alloc: Global, oneof: &Oneof) -> Result<Option<Spot>, 
 {
     let empty = empty_fault(oneof);
     let own = statement_settings_fault(alloc, Element::Oneof, oneof.items.as_slice())?;
-    Ok(lesser(empty, own))
+    Ok(least_of(&[empty, own]))
 }

@@ -7,6 +7,7 @@ ghost use Rattle.proto_checks.specs.Checks.{parts_of, IsPartTooLong, IsWholeTooL
 ghost use Rattle.proto_base.specs.Least.{IsLeast, spot};
 ghost use Rattle.proto_base.specs.Sets.{Each, Where};
 
+use crate::least::least_of;
 use proto_base::{Kind, Limit, Limits, Place, Spot, lesser};
 use proto_tree::text::dotted_len;
 use proto_tree::{FullName, Package, Statement};
@@ -83,7 +84,7 @@ fn length_fault(limits: &Limits, declared: &Package) -> Option<Spot>
     let place = name.first.span.start;
     let parts = parts_fault(limits, place, name);
     let whole = whole_fault(limits, place, name);
-    lesser(parts, whole)
+    least_of(&[parts, whole])
 }
 
 /// The first package that is too long or has a part that is.

@@ -7,8 +7,9 @@ ghost use Rattle.proto_base.specs.Least.{IsLeast};
 ghost use Rattle.proto_base.specs.Sets.{Each};
 
 use crate::each::{Check, first_of};
+use crate::least::least_of;
 use crate::settings::statement_settings_fault;
-use proto_base::{Spot, lesser};
+use proto_base::Spot;
 use proto_desc::rules::Element;
 use proto_options::rpc_items;
 use proto_tree::{Rpc, Service, ServiceItem};
@@ -38,5 +39,5 @@ pub(crate) fn service_fault(alloc: Global, service: &Service) -> Result<Option<S
     let items = service.items.as_slice();
     let own = statement_settings_fault(alloc, Element::Service, items)?;
     let methods = first_of(alloc, items)?;
-    Ok(lesser(own, methods))
+    Ok(least_of(&[own, methods]))
 }

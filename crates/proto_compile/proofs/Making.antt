@@ -9,7 +9,7 @@ use Rattle.proto_compile.specs.Sources.{name_of}
 use Rattle.proto_compile.proofs.Rising.{named_once}
 use Rattle.proto_compile.proofs.OneTyping as zipped
 use Rattle.proto_checks.specs.Checks.{FileBreaks}
-use Rattle.proto_desc.specs.declared.file.PackageDesc.{PackageDesc}
+use Rattle.proto_desc.specs.declared.file.PackageDescriptor.{PackageDescriptor}
 use Rattle.proto_names.specs.Scopes.{prefixes}
 use Rattle.proto_base.specs.declared.kind.Kind.TheVariants as kind
 use Rattle.share_work.proofs.Sums.{of_filter, of_map}
@@ -25,7 +25,7 @@ IsShortService n o = is_service o ≡ true → length o.name ≤ n
 
 -- ---- what files declare
 
-package_short : (n file : ℕ) (p : Option PackageDesc) → All (IsShortService n) (package_occurrences file p)
+package_short : (n file : ℕ) (p : Option PackageDescriptor) → All (IsShortService n) (package_occurrences file p)
 package_short n file None = All-nil (IsShortService n)
 package_short n file (Some p) = All-map (IsShortService n) (package_occurrence file p.place) (prefixes p.name)
     (λ k d h service. absurd (false≢true service))

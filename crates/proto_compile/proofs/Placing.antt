@@ -1,6 +1,6 @@
 -- Faults stand within the texts of their files.
 use Rattle.proto_compile.proofs.Common.{◌≡◌, ◌∙◌, sym, subst, ◌⊎◌, inl, inr, ℕ, zero, suc, ◌+◌, ◌<◌, List, [], ◌∷◌, length, refl, arith, Contains, map, Option, None, Some, AllZip, AllByRecursion, cases_order, get_or-map, Contains-append_cases, IsPermutation-refl, Kind, Limits, Place, StandsAt, FileDesc, spot, Spot, Occurrence, occurrences_of, occurrences, occurrences_from, declared_occurrence, package_occurrence, package_occurrences, SourceDescribes, AreDescribed, Breaks, IsPlaced, SourceFault, bad_import, bad_type, file_fault, long_descriptor, long_set, many_files, many_names, repeated_file_name, repeated_name, start, name_at, text_of, Source, Declared, declared_by, declared_by_enum, declared_by_message, declared_by_service, declared_field, declared_method, declared_oneof, declared_value, file_scope, scoped}
-use Rattle.proto_desc.specs.declared.file.ImportDesc.{ImportDesc}
+use Rattle.proto_desc.specs.declared.file.ImportDescriptor.{ImportDescriptor}
 use Rattle.proto_links.specs.Imports as imports
 use Rattle.proto_file.proofs.AfterFirst.{IsAfter, places_after}
 use Rattle.proto_file.proofs.Spots.{Placed, SpotWithin, at_spot, each_within, standing}
@@ -14,10 +14,10 @@ use Rattle.proto_desc.specs.Places.{reference_places, kind_places, option_place,
 use Rattle.proto_desc.specs.declared.enumeration.EnumDesc.{EnumDesc}
 use Rattle.proto_desc.specs.declared.field.FieldDesc.{FieldDesc}
 use Rattle.proto_desc.specs.declared.field.FieldKind.{FieldKind}
-use Rattle.proto_desc.specs.declared.file.PackageDesc.{PackageDesc}
+use Rattle.proto_desc.specs.declared.file.PackageDescriptor.{PackageDescriptor}
 use Rattle.proto_desc.specs.declared.message.MessageDesc.{MessageDesc}
 use Rattle.proto_desc.specs.declared.message.MessageDesc.TheViews.{out-MessageDesc}
-use Rattle.proto_desc.specs.declared.options.OptionDesc.{OptionDesc}
+use Rattle.proto_desc.specs.declared.options.OptionDescriptor.{OptionDescriptor}
 use Rattle.proto_desc.specs.declared.service.MethodDesc.{MethodDesc}
 use Rattle.proto_desc.specs.declared.service.ServiceDesc.{ServiceDesc}
 use Rattle.proto_desc.specs.declared.type_name.TypeReference.{TypeReference}
@@ -35,19 +35,19 @@ module _ (region : ℕ → Type 0) where
   abbrev DeclaredAt : Declared → Type 0
   DeclaredAt d = IsIn region d.place
 
-  abbrev OptionAt : OptionDesc → Type 0
+  abbrev OptionAt : OptionDescriptor → Type 0
   OptionAt o = IsIn region o.place
 
   -- a reference, with the options of its field
   abbrev ReferenceAt : Reference → Type 0
   ReferenceAt r = IsIn region r.place × AllByRecursion OptionAt r.options
 
-  type_at : (scope : List ℕ) (wanted : Want) (options : List OptionDesc) (r : TypeReference)
+  type_at : (scope : List ℕ) (wanted : Want) (options : List OptionDescriptor) (r : TypeReference)
       → AreIn region (reference_places r) → AllByRecursion OptionAt options
       → AllByRecursion ReferenceAt (references_of_type scope wanted options r)
   type_at scope wanted options r at set = grind arith
 
-  kind_at : (scope : List ℕ) (options : List OptionDesc) (k : FieldKind) → AreIn region (kind_places k)
+  kind_at : (scope : List ℕ) (options : List OptionDescriptor) (k : FieldKind) → AreIn region (kind_places k)
       → AllByRecursion OptionAt options → AllByRecursion ReferenceAt (references_of_kind scope options k)
   kind_at scope options k at set = grind (arith, type_at)
 
@@ -152,7 +152,7 @@ module _ (region : ℕ → Type 0) where
   abbrev OccurrenceAt : ℕ → Occurrence → Type 0
   OccurrenceAt file o = (o.file ≡ file) × IsIn region o.place
 
-  package_occurrences_at : (file : ℕ) (p : Option PackageDesc) → AreIn region (package_places p)
+  package_occurrences_at : (file : ℕ) (p : Option PackageDescriptor) → AreIn region (package_places p)
       → AllByRecursion (OccurrenceAt file) (package_occurrences file p)
   package_occurrences_at file None at = tt
   package_occurrences_at file (Some p) at =
@@ -187,7 +187,8 @@ bad_placed : (descs : List FileDesc) (a : ℕ) (desc : FileDesc) (place : Place)
     → imports.IsBad descs a place kind → LiesWith desc place
 bad_placed descs a desc place kind at (i, here, is, wrong) n parts =
     let (k, below, there) = rw (get_or-map imports.imports_of descs a desc [] at.0, at.1) at here in
-    subst (Placed n) is (standing (λ (j : ImportDesc). Placed n j.place) desc.imports k i parts.imports (below, there))
+    let placed = λ (j : ImportDescriptor). Placed n j.place in
+    subst (Placed n) is (standing placed desc.imports k i parts.imports (below, there))
 
 -- ---- names
 

@@ -20,7 +20,7 @@ pub use compiled::Compiled;
 pub use compiling::{compile, compile_by};
 pub use error::CompileError;
 pub use laws::compiling_is_unique;
-pub use pass::LOCAL;
+pub use pass::LOCAL_PASS;
 pub use set::FILE_FIELD;
 pub use source::Source;
 pub use workers::Leftovers;

@@ -12,7 +12,7 @@ ghost use Rattle.std.specs.Prelude.{◌≡◌};
 ghost use Rattle.proto_compile.specs.Passes.{number_of};
 
 /// The number of the pass over each source by itself, as a fault has it.
-pub const LOCAL: u8 = 1;
+pub const LOCAL_PASS: u8 = 1;
 
 /// A pass over sources. A later one is judged only where every file has passed all earlier ones.
 #[derive(Clone, Copy)]
@@ -40,7 +40,7 @@ impl Pass {
     {
         match self {
             Pass::List => 0,
-            Pass::Local => LOCAL,
+            Pass::Local => LOCAL_PASS,
             Pass::Imports => 2,
             Pass::Names => 3,
             Pass::Types => 4,

@@ -6,7 +6,7 @@ use Rattle.proto_desc.specs.declared.enumeration.EnumDesc.{EnumDesc}
 use Rattle.proto_desc.specs.declared.enumeration.ValueDesc.{ValueDesc}
 use Rattle.proto_desc.specs.declared.field.FieldDesc.{FieldDesc}
 use Rattle.proto_desc.specs.declared.file.FileDesc.{FileDesc}
-use Rattle.proto_desc.specs.declared.file.PackageDesc.{PackageDesc}
+use Rattle.proto_desc.specs.declared.file.PackageDescriptor.{PackageDescriptor}
 use Rattle.proto_desc.specs.declared.message.MessageDesc.{MessageDesc}
 use Rattle.proto_desc.specs.declared.message.MessageDesc.TheOpen.{MessageDesc-F}
 use Rattle.proto_desc.specs.declared.message.MessageDesc.TheFolds.{fold-MessageDesc}
@@ -66,7 +66,7 @@ declared_by_service scope s = record { scope = scope; name = s.name; kind = kind
     ∷ map (declared_method (scoped scope s.name)) s.methods
 
 -- the scope of what stands at the top of a file
-abbrev pub file_scope : Option PackageDesc → List ℕ
+abbrev pub file_scope : Option PackageDescriptor → List ℕ
 file_scope None = []
 file_scope (Some p) = p.name
 

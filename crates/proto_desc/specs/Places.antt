@@ -6,13 +6,13 @@ use Rattle.proto_desc.specs.declared.field.FieldDesc.{FieldDesc}
 use Rattle.proto_desc.specs.declared.field.FieldKind.{FieldKind}
 use Rattle.proto_desc.specs.declared.field.FieldKind.TheVariants.{Scalar, Named}
 use Rattle.proto_desc.specs.declared.file.FileDesc.{FileDesc}
-use Rattle.proto_desc.specs.declared.file.ImportDesc.{ImportDesc}
-use Rattle.proto_desc.specs.declared.file.PackageDesc.{PackageDesc}
+use Rattle.proto_desc.specs.declared.file.ImportDescriptor.{ImportDescriptor}
+use Rattle.proto_desc.specs.declared.file.PackageDescriptor.{PackageDescriptor}
 use Rattle.proto_desc.specs.declared.message.MessageDesc.{MessageDesc}
 use Rattle.proto_desc.specs.declared.message.MessageDesc.TheOpen.{MessageDesc-F}
 use Rattle.proto_desc.specs.declared.message.MessageDesc.TheFolds.{fold-MessageDesc}
 use Rattle.proto_desc.specs.declared.oneof.OneofDesc.{OneofDesc}
-use Rattle.proto_desc.specs.declared.options.OptionDesc.{OptionDesc}
+use Rattle.proto_desc.specs.declared.options.OptionDescriptor.{OptionDescriptor}
 use Rattle.proto_desc.specs.declared.service.MethodDesc.{MethodDesc}
 use Rattle.proto_desc.specs.declared.service.ServiceDesc.{ServiceDesc}
 use Rattle.proto_desc.specs.declared.type_name.TypeReference.{TypeReference}
@@ -26,7 +26,7 @@ abbrev pub kind_places : FieldKind → List ℕ
 kind_places (Scalar s) = []
 kind_places (Named r) = reference_places r
 
-abbrev pub option_place : OptionDesc → ℕ
+abbrev pub option_place : OptionDescriptor → ℕ
 option_place o = o.place.offset
 
 abbrev pub field_places : FieldDesc → List ℕ
@@ -55,11 +55,11 @@ method_places m = m.place.offset ∷ (reference_places m.input ++ reference_plac
 abbrev pub service_places : ServiceDesc → List ℕ
 service_places s = s.place.offset ∷ flat_map method_places s.methods
 
-abbrev pub package_places : Option PackageDesc → List ℕ
+abbrev pub package_places : Option PackageDescriptor → List ℕ
 package_places None = []
 package_places (Some p) = p.place.offset ∷ []
 
-abbrev pub import_place : ImportDesc → ℕ
+abbrev pub import_place : ImportDescriptor → ℕ
 import_place i = i.place.offset
 
 abbrev pub places_of : FileDesc → List ℕ

@@ -1,6 +1,6 @@
 //! Enums (`EnumDescriptorProto`, `EnumValueDescriptorProto`).
 
-use crate::options::OptionDesc;
+use crate::options::OptionDescriptor;
 use crate::whole_number::WholeNumber;
 use proto_base::Place;
 use proto_base::row::Row;
@@ -12,7 +12,7 @@ pub struct ValueDesc<'s> {
     pub name: Text<'s>,
     pub place: Place,
     pub number: WholeNumber,
-    pub options: Row<OptionDesc<'s>>,
+    pub options: Row<OptionDescriptor<'s>>,
 }
 
 /// Reserved numbers of an enum, from `start` to `end`; both are reserved.
@@ -28,7 +28,7 @@ pub struct EnumDesc<'s> {
     pub name: Text<'s>,
     pub place: Place,
     pub values: Row<ValueDesc<'s>>,
-    pub options: Row<OptionDesc<'s>>,
+    pub options: Row<OptionDescriptor<'s>>,
     pub reserved_ranges: Row<EnumReservedRange>,
     pub reserved_names: Row<Text<'s>>,
 }

@@ -1,6 +1,6 @@
 //! Fields (`FieldDescriptorProto`).
 
-use crate::options::OptionDesc;
+use crate::options::OptionDescriptor;
 use crate::type_name::TypeReference;
 use proto_base::Place;
 use proto_base::row::Row;
@@ -34,5 +34,5 @@ pub struct FieldDesc<'s> {
     pub oneof_index: Option<usize>,
     /// The option `json_name`, or else the name that is made of the field's.
     pub json_name: Text<'s>,
-    pub options: Row<OptionDesc<'s>>,
+    pub options: Row<OptionDescriptor<'s>>,
 }

@@ -5,7 +5,7 @@ ghost use Rattle.proto_desc.specs.DeclaredNames.{file_scope};
 
 use crate::enumeration::EnumDesc;
 use crate::message::MessageDesc;
-use crate::options::OptionDesc;
+use crate::options::OptionDescriptor;
 use crate::service::ServiceDesc;
 use proto_base::Place;
 use proto_base::row::Row;
@@ -13,14 +13,14 @@ use proto_base::text::Text;
 
 /// The package of a file: its parts with dots between them, at the first part.
 #[derive(Drop)]
-pub struct PackageDesc<'s> {
+pub struct PackageDescriptor<'s> {
     pub name: Text<'s>,
     pub place: Place,
 }
 
 /// An import: the path that it names, at its first string.
 #[derive(Drop)]
-pub struct ImportDesc<'s> {
+pub struct ImportDescriptor<'s> {
     pub path: Text<'s>,
     pub place: Place,
     pub is_public: bool,
@@ -30,16 +30,17 @@ pub struct ImportDesc<'s> {
 #[derive(Drop)]
 pub struct FileDesc<'s> {
     pub name: Text<'s>,
-    pub package: Option<PackageDesc<'s>>,
-    pub imports: Row<ImportDesc<'s>>,
+    pub package: Option<PackageDescriptor<'s>>,
+    pub imports: Row<ImportDescriptor<'s>>,
     pub messages: Row<MessageDesc<'s>>,
     pub enums: Row<EnumDesc<'s>>,
     pub services: Row<ServiceDesc<'s>>,
-    pub options: Row<OptionDesc<'s>>,
+    pub options: Row<OptionDescriptor<'s>>,
 }
 
 impl FileDesc<'_> {
-    /// The scope of what stands at the top of the file: the name of its package, or nothing.
+    /// The scope of what stands at the top of the file: the name of its package, or nothing (language guide,
+    /// "Packages and Name Resolution").
     pub fn scope(&self) -> &str
         ensures { result.now ≡ file_scope self.now.«package» }
     {

@@ -3,7 +3,7 @@
 use crate::enumeration::EnumDesc;
 use crate::field::FieldDesc;
 use crate::oneof::OneofDesc;
-use crate::options::OptionDesc;
+use crate::options::OptionDescriptor;
 use proto_base::Place;
 use proto_base::row::Row;
 use proto_base::text::Text;
@@ -26,6 +26,6 @@ pub struct MessageDesc<'s> {
     pub oneofs: Row<OneofDesc<'s>>,
     pub reserved_ranges: Row<ReservedRange>,
     pub reserved_names: Row<Text<'s>>,
-    pub options: Row<OptionDesc<'s>>,
+    pub options: Row<OptionDescriptor<'s>>,
     pub is_map_entry: bool,
 }

@@ -12,7 +12,7 @@ pub enum OptionValue<'s> {
 
 /// A setting that the element's message of options has, by its field number there, at the first token of its name.
 #[derive(Drop)]
-pub struct OptionDesc<'s> {
+pub struct OptionDescriptor<'s> {
     pub number: u32,
     pub value: OptionValue<'s>,
     pub place: Place,

@@ -1,6 +1,6 @@
 //! Services (`ServiceDescriptorProto`, `MethodDescriptorProto`).
 
-use crate::options::OptionDesc;
+use crate::options::OptionDescriptor;
 use crate::type_name::TypeReference;
 use proto_base::Place;
 use proto_base::row::Row;
@@ -13,7 +13,7 @@ pub struct MethodDesc<'s> {
     pub place: Place,
     pub input: TypeReference<'s>,
     pub output: TypeReference<'s>,
-    pub options: Row<OptionDesc<'s>>,
+    pub options: Row<OptionDescriptor<'s>>,
     pub client_streaming: bool,
     pub server_streaming: bool,
 }
@@ -24,5 +24,5 @@ pub struct ServiceDesc<'s> {
     pub name: Text<'s>,
     pub place: Place,
     pub methods: Row<MethodDesc<'s>>,
-    pub options: Row<OptionDesc<'s>>,
+    pub options: Row<OptionDescriptor<'s>>,
 }

@@ -12,7 +12,7 @@ use Rattle.proto_tree.specs.declared.field.Label.{Label}
 use Rattle.proto_tree.specs.declared.list.Separated.{Separated}
 use Rattle.proto_tree.specs.declared.option.Options.{Options}
 use Rattle.proto_tree.specs.declared.option.Setting.{Setting}
-use Rattle.proto_desc.specs.declared.options.OptionDesc.{OptionDesc}
+use Rattle.proto_desc.specs.declared.options.OptionDescriptor.{OptionDescriptor}
 use Rattle.proto_desc.specs.declared.rules.Element.{Element}
 use Rattle.proto_desc.specs.declared.rules.ValueKind.{ValueKind}
 use Rattle.proto_lower.specs.Fields.{kind_of, described, label_of, is_optional, inner, member_at, fields_from, real_count}
@@ -223,7 +223,7 @@ module _ (region : ℕ → Type 0) where
 
   -- ---- options
 
-  abbrev OptionWithin : OptionDesc → Type 0
+  abbrev OptionWithin : OptionDescriptor → Type 0
   OptionWithin o = region (option_place o)
 
   option_within : (number : Option ℕ) (kind : ValueKind) (word : List ℕ) (ss : List Setting) → EachIn setting_tree ss

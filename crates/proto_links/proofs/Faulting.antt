@@ -1,6 +1,6 @@
 -- What the loops keep that find the files of imports, and what is wrong with imports.
 use Rattle.proto_links.proofs.Common.{length-append, ◌≡◌, ◌∙◌, sym, ℕ, ◌+◌, ◌<◌, List, [], ◌∷◌, ◌++◌, length, map, take, get_or, subst, arith, inl, inr, ◌⊎◌, Vec, Global, Bool, true, false, Contains, ◌↔◌, IsTrue, Option, Some, None, cases_lt, cases_eq, common_steps, get_or-map, Contains-push, Contains-push_cases, Contains-append_left, Graph, Edge, graph_of, below_more, joined_end, joined_more, joined_none, edge_push, push_iff, leads_turned, FileDesc, HasMissing, IsGraph, IsWrongAt, IsWrongIn, imports_of, imports_at, IsNamed, Targets, PublicTargets, Imports, ImportsPublicly, name_of, Reaches, IsWrong, missing, cyclic, IsBad, Leads, Kind, IsLeast, spot}
-use Rattle.proto_desc.specs.declared.file.ImportDesc.{ImportDesc}
+use Rattle.proto_desc.specs.declared.file.ImportDescriptor.{ImportDescriptor}
 use Rattle.proto_base.specs.NameOrder.{NamesRise}
 use Rattle.proto_links.proofs.NameRows.{named_once}
 use Rattle.proto_base.specs.declared.kind.Kind.TheVariants as kind
@@ -13,24 +13,26 @@ use Rattle.proto_links.specs.Bad.{IsFirstBad}
 -- ---- one import more
 
 -- some import has P where one before does, or the new one
-pub some_more : (P : ImportDesc → Type 0) (xs : List ImportDesc) (i : ImportDesc)
-    → ((j : ImportDesc) × Contains (xs ++ i ∷ []) j × P j) ↔ (((j : ImportDesc) × Contains xs j × P j) ⊎ P i)
+pub some_more : (P : ImportDescriptor → Type 0) (xs : List ImportDescriptor) (i : ImportDescriptor)
+    → ((j : ImportDescriptor) × Contains (xs ++ i ∷ []) j × P j)
+    ↔ (((j : ImportDescriptor) × Contains xs j × P j) ⊎ P i)
 some_more P xs i = grind (arith, common_steps, Contains-append_left, Contains-push, Contains-push_cases)
 
-pub some_both : (P Q : ImportDesc → Type 0) (xs : List ImportDesc) (i : ImportDesc)
-    → ((j : ImportDesc) × Contains (xs ++ i ∷ []) j × P j × Q j)
-    ↔ (((j : ImportDesc) × Contains xs j × P j × Q j) ⊎ (P i × Q i))
+pub some_both : (P Q : ImportDescriptor → Type 0) (xs : List ImportDescriptor) (i : ImportDescriptor)
+    → ((j : ImportDescriptor) × Contains (xs ++ i ∷ []) j × P j × Q j)
+    ↔ (((j : ImportDescriptor) × Contains xs j × P j × Q j) ⊎ (P i × Q i))
 some_both P Q xs i = grind (arith, common_steps, Contains-append_left, Contains-push, Contains-push_cases)
 
 -- what a loop over imports keeps, of those before it
-pub record Targeting (files : List FileDesc) (xs : List ImportDesc) (all public : List ℕ) (whole : Bool) : Type 0 where
+pub record Targeting (files : List FileDesc) (xs : List ImportDescriptor) (all public : List ℕ)
+    (whole : Bool) : Type 0 where
   pub all_are : (b : ℕ) → Contains all b ↔ Targets files xs b
   pub public_are : (b : ℕ) → Contains public b ↔ PublicTargets files xs b
   pub found : IsTrue whole → HasMissing files xs → ⊥
   pub lacking : whole ≡ false → HasMissing files xs
 
-pub targeting_more : {files : List FileDesc} {xs : List ImportDesc} {all public new_all new_public : List ℕ}
-    {whole now : Bool} (i : ImportDesc)
+pub targeting_more : {files : List FileDesc} {xs : List ImportDescriptor} {all public new_all new_public : List ℕ}
+    {whole now : Bool} (i : ImportDescriptor)
     → ((b : ℕ) → Contains new_all b ↔ (Contains all b ⊎ IsNamed files i.path b))
     → ((b : ℕ) → Contains new_public b ↔ (Contains public b ⊎ (IsTrue i.is_public × IsNamed files i.path b)))
     → ((now ≡ whole) × ((t : ℕ) × IsNamed files i.path t)) ⊎ ((now ≡ false) × ((b : ℕ) → IsNamed files i.path b → ⊥))
@@ -69,7 +71,7 @@ rows_more P n g new row e members r = rw e (record {
 })
 
 -- a file that imports is one of the files
-pub importer_inside : (files : List FileDesc) (a : ℕ) (i : ImportDesc) → Contains (imports_at files a) i
+pub importer_inside : (files : List FileDesc) (a : ℕ) (i : ImportDescriptor) → Contains (imports_at files a) i
     → a < length files
 importer_inside files a i w = grind (arith, common_steps)
 
@@ -85,7 +87,7 @@ pub record Graphing (files : List FileDesc) (n : ℕ) (imports public : List (Ve
   pub lacking : whole ≡ false → (a : ℕ) × HasMissing files (imports_at files a)
 
 pub graphing_more : {files : List FileDesc} {n : ℕ} {imports public new_imports new_public : List (Vec ℕ Global)}
-    {whole part now : Bool} {xs : List ImportDesc} (all some : List ℕ) → Graphing files n imports public whole
+    {whole part now : Bool} {xs : List ImportDescriptor} (all some : List ℕ) → Graphing files n imports public whole
     → xs ≡ imports_at files n → graph_of new_imports ≡ graph_of imports ++ all ∷ []
     → graph_of new_public ≡ graph_of public ++ some ∷ []
     → ((whole ≡ true) × (now ≡ part)) ⊎ ((whole ≡ false) × (now ≡ whole))
@@ -116,22 +118,22 @@ prefix_more xs n x h is = grind (arith, common_steps)
 
 -- ---- one import
 
-pub only_missing : (files : List FileDesc) (a : ℕ) (i : ImportDesc) → ((b : ℕ) → IsNamed files i.path b → ⊥)
+pub only_missing : (files : List FileDesc) (a : ℕ) (i : ImportDescriptor) → ((b : ℕ) → IsNamed files i.path b → ⊥)
     → (k : Kind) → IsWrong files a i k → k ≡ kind.ImportMissing
 only_missing files a i none k wrong = grind arith
 
-pub only_cyclic : (files : List FileDesc) (a : ℕ) (i : ImportDesc) (t : ℕ) → IsNamed files i.path t → (k : Kind)
+pub only_cyclic : (files : List FileDesc) (a : ℕ) (i : ImportDescriptor) (t : ℕ) → IsNamed files i.path t → (k : Kind)
     → IsWrong files a i k → k ≡ kind.ImportCycle
 only_cyclic files a i t n k wrong = grind arith
 
-pub no_fault : (files : List FileDesc) (a : ℕ) (i : ImportDesc) (t : ℕ) → NamesRise (map name_of files)
+pub no_fault : (files : List FileDesc) (a : ℕ) (i : ImportDescriptor) (t : ℕ) → NamesRise (map name_of files)
     → IsNamed files i.path t → (Reaches files t a → ⊥) → (k : Kind) → IsWrong files a i k → ⊥
 no_fault files a i t order n out _ (missing none) = none t n
 no_fault files a i t order n out _ (cyclic b m r) = out (rw (named_once files i.path order b t m n) at r)
 
 -- ---- the imports of a file
 
-module _ (files : List FileDesc) (a : ℕ) (xs : List ImportDesc) (i : ImportDesc) (first : Option Spot)
+module _ (files : List FileDesc) (a : ℕ) (xs : List ImportDescriptor) (i : ImportDescriptor) (first : Option Spot)
     (least : IsLeast (IsWrongIn files a xs) first) where
   wrong_more : (x : Spot) → IsWrongIn files a (xs ++ i ∷ []) x ↔ (IsWrongIn files a xs x ⊎ IsWrongAt files a i x)
   wrong_more x = some_both (λ j. j.place ≡ x.place) (λ j. IsWrong files a j x.kind) xs i
@@ -160,7 +162,7 @@ reaching_is files g turned a is flipped b = (
 pub record NoneBefore (files : List FileDesc) (n : ℕ) : Type 0 where
   pub none : (a : ℕ) (p : Place) (k : Kind) → a < n → IsBad files a p k → ⊥
 
-pub none_more : {files : List FileDesc} {n : ℕ} {imports : List ImportDesc} {first : Option Spot}
+pub none_more : {files : List FileDesc} {n : ℕ} {imports : List ImportDescriptor} {first : Option Spot}
     → imports ≡ imports_at files n → first ≡ None
     → IsLeast (IsWrongIn files n imports) first → NoneBefore files n → NoneBefore files (n + 1)
 none_more {files} {n} e is f old = record {
@@ -170,7 +172,7 @@ none_more {files} {n} e is f old = record {
   ]);
 }
 
-pub first_bad_is : {files : List FileDesc} {n : ℕ} {imports : List ImportDesc} {first : Option Spot} {x : Spot}
+pub first_bad_is : {files : List FileDesc} {n : ℕ} {imports : List ImportDescriptor} {first : Option Spot} {x : Spot}
     → imports ≡ imports_at files n → first ≡ Some x → IsLeast (IsWrongIn files n imports) first → NoneBefore files n
     → IsFirstBad files n x.place x.kind
 first_bad_is {n = n} e is f old =

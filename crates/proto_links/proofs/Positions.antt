@@ -2,7 +2,7 @@
 use Rattle.proto_links.proofs.Common.{◌≡◌, ℕ, ◌<◌, List, length, refl, subst, arith, inl, inr, ◌⊎◌, Contains, ◌↔◌, rules, [], get_or, zero-add, ◌+◌, map, Vec, Global, IsTrue, ◌==◌, eqb-true, Graph, Edge, IsFalling, IsWithin, graph_of, Leads, here, through, leads_map, leads_last, joined_two, length_graph, leads_le, edge_below, FileDesc, Kind, IsGraph, HasMissing, IsPublicGraph, Imports, ImportsPublicly, Reaches, NoneBad, IsWrong, missing, cyclic, imports_at, Contains-get_or, get_or-map, get_or_default, length-map, reach_of, sees, AreLinked, IsReach, common_steps}
 use Rattle.digraph.specs.Reaches.{HasNoCycle, IsReach as IsReachList}
 use Rattle.digraph.specs.Ranks.{rank_in, IsRanked}
-use Rattle.proto_desc.specs.declared.file.ImportDesc.{ImportDesc}
+use Rattle.proto_desc.specs.declared.file.ImportDescriptor.{ImportDescriptor}
 use Rattle.proto_links.specs.Visible.{Sees, itself, imported, re_exported}
 use Rattle.std.proofs.lemmas.List.FromFn.{get_or-map-range_with_len}
 use Rattle.bit_matrix.specs.Bits.{has as is_set, Bits}
@@ -64,7 +64,7 @@ module _ (files : List FileDesc) (none : NoneBad files) (a : ℕ) where
 -- ---- files without a bad import
 
 module _ {files : List FileDesc} {g : Graph} {ranks : List ℕ} (is : IsGraph files g) (ranked : IsRanked g ranks) where
-  not_wrong : (a : ℕ) (i : ImportDesc) (k : Kind) → (HasMissing files (imports_at files a) → ⊥)
+  not_wrong : (a : ℕ) (i : ImportDescriptor) (k : Kind) → (HasMissing files (imports_at files a) → ⊥)
       → Contains (imports_at files a) i → IsWrong files a i k → ⊥
   not_wrong a i _ whole w (missing none) = whole (i, w, none)
   not_wrong a i _ whole w (cyclic b n reach) =

@@ -3,7 +3,7 @@
 ghost use Rattle.std.specs.Prelude.{◌≡◌, ◌↔◌, ℕ, ◌<◌, IfOk, MatchOption, length, map, Contains};
 ghost use Rattle.digraph.specs.Edges.{graph_of};
 ghost use Rattle.digraph.specs.Marks.{IsMarked};
-ghost use Rattle.proto_desc.specs.declared.file.ImportDesc.{ImportDesc};
+ghost use Rattle.proto_desc.specs.declared.file.ImportDescriptor.{ImportDescriptor};
 ghost use Rattle.proto_links.specs.Graphs.{IsGraph, IsWrongIn};
 ghost use Rattle.proto_links.specs.Imports.{IsWrong, NoneBad, Reaches, imports_at, name_of};
 ghost use Rattle.proto_links.specs.Bad.{IsFirstBad};
@@ -14,11 +14,16 @@ ghost use Rattle.proto_base.specs.declared.kind.Kind.{Kind};
 use crate::order::file_named;
 use digraph::{mark_reached, predecessors};
 use proto_base::{Kind, Spot, lesser};
-use proto_desc::file::{FileDesc, ImportDesc};
+use proto_desc::file::{FileDesc, ImportDescriptor};
 use std::alloc::{AllocError, Global};
 
 /// What is wrong with an import of a file, where the files that reach it are marked.
-fn fault_of(files: &[FileDesc], file: usize, import: &ImportDesc, reaching: &[bool]) -> Option<Kind>
+fn fault_of(
+    files: &[FileDesc],
+    file: usize,
+    import: &ImportDescriptor,
+    reaching: &[bool],
+) -> Option<Kind>
     requires order { NamesRise (map name_of files.now) }
     requires room { length reaching.now ≡ length files.now }
     requires reaching { (b : ℕ) → IsMarked reaching.now b ↔ Reaches files.now b file }
@@ -42,7 +47,7 @@ fn fault_of(files: &[FileDesc], file: usize, import: &ImportDesc, reaching: &[bo
 fn first_wrong(
     files: &[FileDesc],
     file: usize,
-    imports: &[ImportDesc],
+    imports: &[ImportDescriptor],
     reaching: &[bool],
 ) -> Option<Spot>
     requires order { NamesRise (map name_of files.now) }

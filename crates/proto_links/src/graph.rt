@@ -7,7 +7,7 @@ ghost use Rattle.proto_base.specs.NameOrder.{NamesRise};
 ghost use Rattle.proto_links.specs.Graphs.{HasMissing, IsGraph, IsPublicGraph};
 
 use crate::order::file_named;
-use proto_desc::file::{FileDesc, ImportDesc};
+use proto_desc::file::{FileDesc, ImportDescriptor};
 use std::alloc::{AllocError, Global};
 
 /// The files that one file imports, and those of them that it imports publicly.
@@ -23,7 +23,7 @@ struct ImportedFiles {
 fn targets(
     alloc: Global,
     files: &[FileDesc],
-    imports: &[ImportDesc],
+    imports: &[ImportDescriptor],
 ) -> Result<ImportedFiles, AllocError>
     requires { NamesRise (map name_of files.now) }
     ensures all { IfOk result (λ targets. (b : ℕ)

@@ -1,5 +1,5 @@
 -- What many proofs of this crate cite, passed on from one place.
-pub use Rattle.std.proofs.Common.{◌≡◌, ◌≤◌, ◌<◌, ◌+◌, ℕ, zero, suc, Bool, true, false, cond, List, [], ◌∷◌, ◌++◌, sym, refl, length, arith, subst, if◌then◌else◌, ◌||◌, String, nat_cmp, ◌∙◌, ap, take, append_assoc, Some, slice_get, count_by, ◌==◌, flat_map, get_or, map, Option, None, take_all, add-one, slice_index, option_to_list, option_map, ◌⊎◌, ◌≢◌, encode_utf8, encode_utf8_all, drop, ◌-◌, string_bytes, inl, inr}
+pub use Rattle.std.proofs.Common.{◌≡◌, ◌≤◌, ◌<◌, ◌+◌, ℕ, zero, suc, Bool, true, false, cond, List, [], ◌∷◌, ◌++◌, sym, refl, length, arith, subst, if◌then◌else◌, ◌||◌, String, nat_cmp, ◌∙◌, ap, take, append_assoc, Some, slice_get, count_by, ◌==◌, flat_map, get_or, map, Option, take_all, add-one, slice_index, option_to_list, option_map, ◌⊎◌, ◌≢◌, encode_utf8, encode_utf8_all, drop, ◌-◌, string_bytes, inl, inr}
 pub use Rattle.std.proofs.lemmas.Bool.Decides.{nat_tests}
 pub use Rattle.std.proofs.lemmas.Grind.{common_steps}
 pub use Rattle.std.proofs.lemmas.List.{append-nil, length-map}

@@ -3,7 +3,7 @@ use Rattle.proto_lower.proofs.Common.{◌≤◌, ◌<◌, ◌+◌, ◌++◌, ℕ
 use Rattle.std.specs.Prelude.{⊤}
 use Rattle.std.specs.List.Sorted.{IsStrictlyIncreasing}
 use Rattle.proto_tree.specs.declared.option.Setting.{Setting}
-use Rattle.proto_desc.specs.declared.options.OptionDesc.{OptionDesc}
+use Rattle.proto_desc.specs.declared.options.OptionDescriptor.{OptionDescriptor}
 use Rattle.proto_desc.specs.declared.options.OptionValue.{OptionValue}
 use Rattle.proto_desc.specs.declared.rules.Element.{Element}
 use Rattle.proto_desc.specs.declared.rules.ValueKind.{ValueKind}
@@ -30,21 +30,21 @@ rises_at least (n ∷ m ∷ ns) (suc k) rises within = rises_at (n + 1) (m ∷ n
 abbrev rule_number : Rule → List ℕ
 rule_number r = option_to_list r.number
 
-abbrev numbers : List OptionDesc → List ℕ
+abbrev numbers : List OptionDescriptor → List ℕ
 numbers options = map (λ o. o.number) options
 
 -- an option in front of those with numbers above its own
-with_value : (least n : ℕ) (s : Setting) (value : Option OptionValue) (rest : List OptionDesc) → least ≤ n
+with_value : (least n : ℕ) (s : Setting) (value : Option OptionValue) (rest : List OptionDescriptor) → least ≤ n
     → RisesFrom (n + 1) (numbers rest)
     → RisesFrom least (numbers (option_to_list (option_map (option_at n s) value) ++ rest))
 with_value least n s value rest h i = grind (arith, rises_below)
 
-with_setting : (least n : ℕ) (kind : ValueKind) (found : Option Setting) (rest : List OptionDesc) → least ≤ n
+with_setting : (least n : ℕ) (kind : ValueKind) (found : Option Setting) (rest : List OptionDescriptor) → least ≤ n
     → RisesFrom (n + 1) (numbers rest)
     → RisesFrom least (numbers (option_to_list (option_by (Some n) kind found) ++ rest))
 with_setting least n kind found rest h i = grind (arith, rises_below, with_value)
 
-with_number : (least : ℕ) (number : Option ℕ) (kind : ValueKind) (found : Option Setting) (rest : List OptionDesc)
+with_number : (least : ℕ) (number : Option ℕ) (kind : ValueKind) (found : Option Setting) (rest : List OptionDescriptor)
     (after : List ℕ)
     → ((m : ℕ) → RisesFrom m after → RisesFrom m (numbers rest)) → RisesFrom least (option_to_list number ++ after)
     → RisesFrom least (numbers (option_to_list (option_by number kind found) ++ rest))

@@ -7,8 +7,8 @@ use Rattle.proto_tree.specs.declared.file.Package.{Package}
 use Rattle.proto_tree.specs.declared.file.Statement.{Statement}
 use Rattle.proto_tree.specs.declared.file.Statement.TheVariants as statement
 use Rattle.proto_desc.specs.declared.file.FileDesc.{FileDesc}
-use Rattle.proto_desc.specs.declared.file.ImportDesc.{ImportDesc}
-use Rattle.proto_desc.specs.declared.file.PackageDesc.{PackageDesc}
+use Rattle.proto_desc.specs.declared.file.ImportDescriptor.{ImportDescriptor}
+use Rattle.proto_desc.specs.declared.file.PackageDescriptor.{PackageDescriptor}
 use Rattle.proto_desc.specs.declared.rules.Element.TheVariants as element
 use Rattle.proto_lower.specs.Enums.{lowered_enum}
 use Rattle.proto_lower.specs.Messages.{lowered_message}
@@ -18,22 +18,22 @@ use Rattle.proto_lower.specs.Options.{options_of}
 use Rattle.proto_lower.specs.Services.{lowered_service}
 use Rattle.proto_tree.specs.Text.{dotted, joined}
 
-abbrev pub package_desc : Package → PackageDesc
+abbrev pub package_desc : Package → PackageDescriptor
 package_desc p = record { name = dotted p.name; place = p.name.first.span.start }
 
 -- of several package statements the first counts
-abbrev pub package_of : List Statement → Option PackageDesc
+abbrev pub package_of : List Statement → Option PackageDescriptor
 package_of ss = option_map package_desc (slice_get (flat_map file_package ss) 0)
 
 -- the full name, behind a leading dot, of what is around the top of a file
-abbrev pub package_scope : Option PackageDesc → List ℕ
+abbrev pub package_scope : Option PackageDescriptor → List ℕ
 package_scope None = []
 package_scope (Some p) = 46 ∷ p.name
 
-abbrev pub import_desc : Import → ImportDesc
+abbrev pub import_desc : Import → ImportDescriptor
 import_desc i = record { path = joined i.path; place = i.path.first.span.start; is_public = is_some i.public }
 
-abbrev pub import_of : Statement → List ImportDesc
+abbrev pub import_of : Statement → List ImportDescriptor
 import_of (statement.Import i) = import_desc i ∷ []
 import_of s = []
 

@@ -4,7 +4,7 @@ use Rattle.std.specs.Option.{option_to_list, option_map}
 use Rattle.proto_tree.specs.declared.constant.Constant.{Constant}
 use Rattle.proto_tree.specs.declared.constant.Constant.TheVariants as constant
 use Rattle.proto_tree.specs.declared.option.Setting.{Setting}
-use Rattle.proto_desc.specs.declared.options.OptionDesc.{OptionDesc}
+use Rattle.proto_desc.specs.declared.options.OptionDescriptor.{OptionDescriptor}
 use Rattle.proto_desc.specs.declared.options.OptionValue.{OptionValue}
 use Rattle.proto_desc.specs.declared.rules.Element.{Element}
 use Rattle.proto_desc.specs.declared.rules.ValueKind.{ValueKind}
@@ -13,19 +13,19 @@ use Rattle.proto_desc.specs.Rules.{Rule, json_name, rules_of}
 use Rattle.proto_tree.specs.Text.{joined}
 use Rattle.proto_options.specs.Options.{first_setting, value_of}
 
-abbrev pub option_at : ℕ → Setting → OptionValue → OptionDesc
+abbrev pub option_at : ℕ → Setting → OptionValue → OptionDescriptor
 option_at number s value = record { number = number; value = value; place = s.name.first.span.start }
 
 -- what the first setting of an option gives, if the option has a number among the options
-abbrev pub option_by : Option ℕ → ValueKind → Option Setting → Option OptionDesc
+abbrev pub option_by : Option ℕ → ValueKind → Option Setting → Option OptionDescriptor
 option_by (Some number) kind (Some s) = option_map (option_at number s) (value_of kind s.value)
 option_by number kind s = None
 
-abbrev pub option_under : List Setting → Rule → List OptionDesc
+abbrev pub option_under : List Setting → Rule → List OptionDescriptor
 option_under settings r = option_to_list (option_by r.number r.kind (first_setting r.word settings))
 
 -- the options of an element with these settings, by rising number
-unfoldable pub options_of : Element → List Setting → List OptionDesc
+unfoldable pub options_of : Element → List Setting → List OptionDescriptor
 options_of element settings = flat_map (option_under settings) (rules_of element)
 
 abbrev pub text_or : List ℕ → Constant → List ℕ

@@ -16,7 +16,7 @@ use crate::service::put_service;
 use proto_base::row::Row;
 use proto_base::text::Text;
 use proto_desc::enumeration::EnumDesc;
-use proto_desc::file::{FileDesc, ImportDesc, PackageDesc};
+use proto_desc::file::{FileDesc, ImportDescriptor, PackageDescriptor};
 use proto_desc::message::MessageDesc;
 use proto_desc::rules::Element;
 use proto_desc::service::ServiceDesc;
@@ -39,11 +39,11 @@ fn first_package<'t, 's>(statements: &'t [Statement<'s>]) -> Option<&'t Package<
 fn lower_package<'s>(
     alloc: Global,
     statements: &[Statement<'s>],
-) -> Result<Option<PackageDesc<'s>>, AllocError>
+) -> Result<Option<PackageDescriptor<'s>>, AllocError>
     ensures { IfOk result (λ found. found ≡ package_of statements.now) }
 {
     match first_package(statements) {
-        Some(package) => Ok(Some(PackageDesc {
+        Some(package) => Ok(Some(PackageDescriptor {
             name: dotted(alloc, &package.name)?,
             place: package.name.first.span.start,
         })),
@@ -52,7 +52,7 @@ fn lower_package<'s>(
 }
 
 /// The full name, behind a leading dot, of what is around the top of a file.
-fn package_scope(alloc: Global, declared: &Option<PackageDesc>) -> Result<String, AllocError>
+fn package_scope(alloc: Global, declared: &Option<PackageDescriptor>) -> Result<String, AllocError>
     ensures { IfOk result (λ scope. string_bytes scope ≡ package_scope declared.now) }
 {
     match declared {
@@ -64,12 +64,12 @@ fn package_scope(alloc: Global, declared: &Option<PackageDesc>) -> Result<String
 /// Adds an import.
 fn put_import<'s>(
     alloc: Global,
-    out: &mut Vec<ImportDesc<'s>>,
+    out: &mut Vec<ImportDescriptor<'s>>,
     import: &Import<'s>,
 ) -> Result<(), AllocError>
     ensures { OnOk result (out.new.items ≡ out.old.items ++ import_desc import.now ∷ []) }
 {
-    out.push(ImportDesc {
+    out.push(ImportDescriptor {
         path: joined(alloc, &import.path)?,
         place: import.path.first.span.start,
         is_public: import.public.is_some(),
@@ -80,7 +80,7 @@ fn put_import<'s>(
 /// What the statements at the top of a file import and declare.
 #[derive(Drop)]
 struct Declared<'s> {
-    imports: Vec<ImportDesc<'s>>,
+    imports: Vec<ImportDescriptor<'s>>,
     messages: Vec<MessageDesc<'s>>,
     enums: Vec<EnumDesc<'s>>,
     services: Vec<ServiceDesc<'s>>,
@@ -162,7 +162,7 @@ fn put_scoped<'s>(
 fn put_declared<'s>(
     alloc: Global,
     out: &mut Declared<'s>,
-    package: &Option<PackageDesc>,
+    package: &Option<PackageDescriptor>,
     statements: &[Statement<'s>],
 ) -> Result<(), AllocError>
     ensures imports { OnOk result (out.new.imports.items

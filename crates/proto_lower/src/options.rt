@@ -9,7 +9,7 @@ ghost use Rattle.proto_lower.specs.Options.{option_by, options_of, json_name_by}
 use crate::names::json_text;
 use proto_base::row::Row;
 use proto_base::text::Text;
-use proto_desc::options::{OptionDesc, OptionValue};
+use proto_desc::options::{OptionDescriptor, OptionValue};
 use proto_desc::rules::{Element, JSON_NAME, OptionRule, ValueKind, rules};
 use proto_options::{Item, first_bracketed, first_setting, number_of};
 use proto_tree::text::joined;
@@ -39,7 +39,7 @@ fn value_of<'s>(
 /// Adds the option of this number that a setting makes, if its value is of this kind.
 fn put_set<'s>(
     alloc: Global,
-    out: &mut Vec<OptionDesc<'s>>,
+    out: &mut Vec<OptionDescriptor<'s>>,
     number: u32,
     kind: ValueKind,
     setting: &Setting<'s>,
@@ -48,7 +48,7 @@ fn put_set<'s>(
         ≡ out.old.items ++ option_to_list (option_by (Some number) kind (Some setting.now))) }
 {
     if let Some(value) = value_of(alloc, kind, &setting.value)? {
-        out.push(OptionDesc {
+        out.push(OptionDescriptor {
             number,
             value,
             place: setting.name.first.span.start,
@@ -60,7 +60,7 @@ fn put_set<'s>(
 /// Adds what a rule's first setting gives.
 fn put_option<'s>(
     alloc: Global,
-    out: &mut Vec<OptionDesc<'s>>,
+    out: &mut Vec<OptionDescriptor<'s>>,
     rule: &OptionRule,
     setting: Option<&Setting<'s>>,
 ) -> Result<(), AllocError>
@@ -104,7 +104,7 @@ pub(crate) fn bracketed_options<'s>(
     alloc: Global,
     element: Element,
     options: &Option<Options<'s>>,
-) -> Result<Row<OptionDesc<'s>>, AllocError>
+) -> Result<Row<OptionDescriptor<'s>>, AllocError>
     ensures { IfOk result (λ set. set ≡ options_of element (bracketed options.now)) }
 {
     let count = bracketed_count(options);
@@ -136,7 +136,7 @@ pub(crate) fn options_of<'s, I: Item<'s>>(
     alloc: Global,
     element: Element,
     items: &[I],
-) -> Result<Row<OptionDesc<'s>>, AllocError>
+) -> Result<Row<OptionDescriptor<'s>>, AllocError>
     ensures { IfOk result (λ set. set ≡ options_of element (flat_map I.setting_of items.now)) }
 {
     let count = setting_count(items);

@@ -2,7 +2,7 @@
 use Rattle.proto_names.proofs.Common.{◌≤◌, ◌≡◌, ◌≢◌, ℕ, ◌+◌, ◌<◌, List, [], ◌∷◌, length, refl, arith, cond, ◌==◌, All, Contains, IsPermutation, Option, None, Some, slice_get, swap, ◌++◌, map, take, drop, get_or, append_assoc, length-append, nat_tests, All-append, All-contains, All-map, All-nil, Contains-permutation, IsPermutation-keeps, IsPermutation-sym, gets, slice_get_within, declared_by, Occurrence, IsTwice, declared_occurrence, package_occurrence, package_occurrences, occurrences_of, occurrences_from, occurrences, prefixes, common_steps, flat_map-append, drop-append_seam, take-add, take-append_seam, length-map, take-append-le, take_more, take-append-drop, ArePlaced, IsCollected, files_in, each_push, get_drop}
 use Rattle.std.proofs.lemmas.List.Edits.{length-swap, swapped_from_swap}
 use Rattle.proto_desc.specs.declared.file.FileDesc.{FileDesc}
-use Rattle.proto_desc.specs.declared.file.PackageDesc.{PackageDesc}
+use Rattle.proto_desc.specs.declared.file.PackageDescriptor.{PackageDescriptor}
 use Rattle.std.proofs.lemmas.List.{append-nil}
 use Rattle.share_work.specs.Shares.{GivesItems}
 use Rattle.share_work.proofs.Together.{get_there}
@@ -13,7 +13,7 @@ use Rattle.proto_names.specs.declared.part.Part.{Part}
 abbrev AreBelow : ℕ → List Occurrence → Type 0
 AreBelow n = All (λ o. o.file < n)
 
-packages_below : (n file : ℕ) (declared : Option PackageDesc) → file < n
+packages_below : (n file : ℕ) (declared : Option PackageDescriptor) → file < n
     → AreBelow n (package_occurrences file declared)
 packages_below n file None below = All-nil (λ (o : Occurrence). o.file < n)
 packages_below n file (Some p) below =

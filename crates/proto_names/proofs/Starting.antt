@@ -1,10 +1,11 @@
 -- Hashes and their slots: where slots begin, and the slots of scopes as bits.
-use Rattle.proto_names.proofs.Common.{common_steps, ◌≡◌, ℕ, ◌+◌, ◌-◌, ◌*◌, ◌<◌, ◌≤◌, List, [], ◌∷◌, ◌++◌, length, take, get_or, append_assoc, arith, inl, inr, lit<, refl, IsTrue, replicate, is_lt, get_or-append_right, cases_lt, get_or-replicate, length-replicate, take_more, Contains-push_cases, ranks_by, sorted_far, le-div, Bits, HasInserted, columns_of, hash_of, hash_step, name_of, Occurrence, AreInHashOrder, name_cmp, is_scope, at, blank, TellsScopes, tells}
+use Rattle.proto_names.proofs.Common.{common_steps, ap, sym, fold, ◌∙◌, ◌%◌, ◌≡◌, ℕ, ◌+◌, ◌-◌, ◌*◌, ◌<◌, ◌≤◌, List, [], ◌∷◌, ◌++◌, length, take, get_or, append_assoc, arith, inl, inr, lit<, refl, IsTrue, replicate, is_lt, get_or-append_right, cases_lt, get_or-replicate, length-replicate, take_more, Contains-push_cases, ranks_by, sorted_far, le-div, Bits, HasInserted, columns_of, hash_of, hash_step, name_of, Occurrence, AreInHashOrder, name_cmp, is_scope, at, blank, TellsScopes, tells}
 use Rattle.std.proofs.Math.ListN.{get_or-append}
-use Rattle.std.proofs.Math.Nat.{div-lt_iff_lt-mul, div-mul-le_self, mul-le-mul_right, mul-lt-mul_of_pos_right}
+use Rattle.std.proofs.Math.Nat.{add-mod-mod, div-lt_iff_lt-mul, div-mul-le_self, mod-add-mod, mul-le-mul_right, mul-lt-mul_of_pos_right, mul_assoc}
 use Rattle.std.proofs.lemmas.List.{length-append}
 use Rattle.std.proofs.lemmas.List.Folds.{fold_along}
 use Rattle.std.proofs.lemmas.List.Sums.{fold-append}
+use Rattle.std.proofs.lemmas.Nat.{mul-mod_first, mul-mod_second}
 use Rattle.proto_names.specs.Starts.{AreStarts, BeginsSlot, slot_at, slot_of}
 use Rattle.proto_names.proofs.Ordered.{first_not, name_total, not_below}
 
@@ -20,6 +21,38 @@ pub hash_end : (prefix bytes : List ℕ) (k d : ℕ) → k < length bytes
 hash_end prefix bytes k d within =
     rw (take_more bytes k d within, ← append_assoc prefix (take k bytes) (get_or bytes k d ∷ []))
     (fold-append hash_step 0 (prefix ++ take k bytes) (get_or bytes k d ∷ []))
+
+-- one byte more at the end of a text, whose hash behind another is told by a power and the hash alone
+ending_step : (before power hash byte : ℕ) → ((before * power + hash) % 4294967296 * 16777619 + byte) % 4294967296
+    ≡ (before * ((power * 16777619 + 0) % 4294967296) + (hash * 16777619 + byte) % 4294967296) % 4294967296
+ending_step before power hash byte =
+    let n = before * power + hash in
+    let z = power * 16777619 + 0 in
+    let w = hash * 16777619 + byte in
+    let left : (n % 4294967296 * 16777619 + byte) % 4294967296 ≡ (n * 16777619 + byte) % 4294967296 =
+    sym (mod-add-mod (n % 4294967296 * 16777619) 4294967296 byte)
+    ∙ ap (λ k. (k + byte) % 4294967296) (mul-mod_first n 16777619 4294967296)
+    ∙ mod-add-mod (n * 16777619) 4294967296 byte in
+    let right : (before * (z % 4294967296) + w % 4294967296) % 4294967296 ≡ (before * z + w) % 4294967296 =
+    add-mod-mod (before * (z % 4294967296)) w 4294967296
+    ∙ sym (mod-add-mod (before * (z % 4294967296)) 4294967296 w)
+    ∙ ap (λ k. (k + w) % 4294967296) (mul-mod_second before z 4294967296)
+    ∙ mod-add-mod (before * z) 4294967296 w in
+    let same : n * 16777619 + byte ≡ before * z + w =
+    omega (arith, mul_assoc before power 16777619) in
+    left ∙ ap (λ k. k % 4294967296) same ∙ sym right
+
+pub ending_more : (bytes : List ℕ) (k d power hash : ℕ) → k < length bytes
+    → ((before : ℕ) → before < 4294967296 → fold hash_step before (take k bytes) ≡ (before * power + hash) % 4294967296)
+    → (before : ℕ) → before < 4294967296 → fold hash_step before (take (k + 1) bytes)
+    ≡ (before * hash_step power 0 + hash_step hash (get_or bytes k d)) % 4294967296
+ending_more bytes k d power hash within so_far before small =
+    rw (take_more bytes k d within) (fold-append hash_step before (take k bytes) (get_or bytes k d ∷ [])
+    ∙ ap (λ h. hash_step h (get_or bytes k d)) (so_far before small)
+    ∙ ending_step before power hash (get_or bytes k d))
+
+pub ending_first : (before : ℕ) → before < 4294967296 → before ≡ (before * 1 + 0) % 4294967296
+ending_first before small = grind (arith, common_steps)
 
 -- ---- slots follow the order
 

@@ -6,6 +6,21 @@ use Rattle.proto_names.specs.SeenAlike.{AreSeenAlike}
 use Rattle.proto_names.specs.declared.visible.Role.{Role}
 use Rattle.proto_names.specs.declared.visible.Role.TheVariants as role
 
+-- ---- first parts
+
+type_scope : (kind : Option NameKind) → IsTrue (is_type kind) → IsTrue (is_scope kind)
+type_scope kind is = grind (arith, common_steps)
+
+-- where a scope decides what a spelled name means, the first part of the name is a scope there
+pub first_visible : (os : List Occurrence) (Seen : ℕ → Type 0) (c spelled first : List ℕ) (dot : Option ℕ)
+    → MatchOption dot (first ≡ spelled) (λ k. first ≡ take k spelled)
+    → MatchOption dot (Visible os Seen is_type (scoped c spelled))
+    (λ k. Visible os Seen is_scope (scoped c (take k spelled)))
+    → (o : Occurrence) × Contains os o × (o.name ≡ scoped c first) × IsTrue (is_scope o.kind)
+first_visible os Seen c spelled first None is (o, within, name, kind, seen) =
+    (o, within, rw is name, type_scope o.kind kind)
+first_visible os Seen c spelled first (Some k) is (o, within, name, kind, seen) = (o, within, rw is name, kind)
+
 -- ---- scopes
 
 abbrev NoDot : List ℕ → Type 0
@@ -157,10 +172,9 @@ nowhere_alike os ps Seen Sees alike scope spelled none full what r =
 abbrev pub AreOf : List Occurrence → List ℕ → List Occurrence → Type 0
 AreOf os name named = (o : Occurrence) → Contains named o → Contains os o × (o.name ≡ name)
 
--- these have all scopes of a name
-abbrev pub HaveScopesOf : List Occurrence → List ℕ → List Occurrence → Type 0
-HaveScopesOf os name named = (o : Occurrence) → Contains os o → o.name ≡ name → IsTrue (is_scope o.kind)
-    → Contains named o
+-- these are all of a name
+abbrev pub HaveAllOf : List Occurrence → List ℕ → List Occurrence → Type 0
+HaveAllOf os name named = (o : Occurrence) → Contains os o → o.name ≡ name → Contains named o
 
 module _ (os : List Occurrence) (Seen : ℕ → Type 0) where
   -- one of those of a name is visible
@@ -171,21 +185,20 @@ module _ (os : List Occurrence) (Seen : ℕ → Type 0) where
 
   -- and what is visible is one of them
   pub visible_among : (r : Role) (name : List ℕ) (named : List Occurrence)
-      → HaveScopesOf os name named → Visible os Seen (fits r) name → HasOneIn named (fits r) Seen
-  visible_among r name named scopes (o, there, same, fitting, seen) =
-      let scope : IsTrue (is_scope o.kind) = grind (arith, common_steps) in
-      grind (arith, scopes o there same scope, get_or_default named)
+      → HaveAllOf os name named → Visible os Seen (fits r) name → HasOneIn named (fits r) Seen
+  visible_among r name named all (o, there, same, fitting, seen) =
+      grind (arith, all o there same, get_or_default named)
 
   -- so the type among those of a name is that of the name
-  pub type_visible : (name : List ℕ) (named : List Occurrence) → AreOf os name named → HaveScopesOf os name named
+  pub type_visible : (name : List ℕ) (named : List Occurrence) → AreOf os name named → HaveAllOf os name named
       → (found : Option NameKind) → MatchOption found (HasNoType named Seen) (IsTypeAmong named Seen)
       → MatchOption found (IsNoType os Seen name) (IsType os Seen name)
-  type_visible name named of scopes None none =
-      let fits = λ (r : Role). visible_among r name named scopes in grind (arith, fits role.Message, fits role.Type)
-  type_visible name named of scopes (Some what) (inl (one, is)) =
+  type_visible name named of all None none =
+      let fits = λ (r : Role). visible_among r name named all in grind (arith, fits role.Message, fits role.Type)
+  type_visible name named of all (Some what) (inl (one, is)) =
       rw is (message (among_visible is_message name named of one))
-  type_visible name named of scopes (Some what) (inr (none, one, is)) = rw is (enumeration
-      (among_visible is_type name named of one) (λ v. none (visible_among role.Message name named scopes v)))
+  type_visible name named of all (Some what) (inr (none, one, is)) = rw is (enumeration
+      (among_visible is_type name named of one) (λ v. none (visible_among role.Message name named all v)))
 
 pub no_type : (os : List Occurrence) (Seen : ℕ → Type 0) (name : List ℕ) → IsNoType os Seen name → (what : NameKind)
     → IsType os Seen name what → ⊥

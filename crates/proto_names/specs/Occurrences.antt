@@ -2,7 +2,7 @@
 use Rattle.std.specs.Prelude.{◌≡◌, ◌≢◌, ◌⊎◌, ℕ, ◌+◌, ◌<◌, ◌≤◌, List, [], ◌∷◌, ◌++◌, map, Option, None, Some, slice_get}
 use Rattle.proto_desc.specs.DeclaredNames.{Declared, full_name, declared_by}
 use Rattle.proto_desc.specs.declared.file.FileDesc.{FileDesc}
-use Rattle.proto_desc.specs.declared.file.PackageDesc.{PackageDesc}
+use Rattle.proto_desc.specs.declared.file.PackageDescriptor.{PackageDescriptor}
 use Rattle.proto_desc.specs.declared.name_kind.NameKind.{NameKind}
 use Rattle.proto_names.specs.Scopes.{prefixes}
 use Rattle.proto_base.specs.declared.place.Place.{Place}
@@ -21,7 +21,7 @@ abbrev pub package_occurrence : ℕ → Place → List ℕ → Occurrence
 package_occurrence file place prefix = record { name = prefix; file = file; place = place; kind = None }
 
 -- a package occurs by every prefix of its name
-abbrev pub package_occurrences : ℕ → Option PackageDesc → List Occurrence
+abbrev pub package_occurrences : ℕ → Option PackageDescriptor → List Occurrence
 package_occurrences file None = []
 package_occurrences file (Some p) = map (package_occurrence file p.place) (prefixes p.name)
 

@@ -35,8 +35,8 @@ pub record ArePackagesOf (os : List Occurrence) (runs : List PackageRun) (files 
   pub each : (k : ℕ) → k < length runs → IsPackageOf (occurrences_in os (run_at runs k)) files k
 
 -- one more run: occurrences of a package, which begin at a position, and a row in which their files are set
-pub record HasPackagePut (os : List Occurrence) (start : ℕ) (old_runs : List PackageRun) (old : Bits) (runs : List PackageRun)
-    (new : Bits) : Type 0 where
+pub record HasPackagePut (os : List Occurrence) (start : ℕ) (old_runs : List PackageRun) (old : Bits)
+    (runs : List PackageRun) (new : Bits) : Type 0 where
   pub longer : runs ≡ old_runs ++ (record { start = start; len = length os }) ∷ []
   pub rows : new.rows ≡ old.rows + 1
   pub width : new.width ≡ old.width

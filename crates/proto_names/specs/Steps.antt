@@ -1,11 +1,13 @@
 -- Words of private contracts: the steps of a resolution.
-use Rattle.std.specs.Prelude.{◌≡◌, ◌⊎◌, ℕ, ◌<◌, List, length, Bool, Option, IsTrue}
+use Rattle.std.specs.List.{position}
+use Rattle.std.specs.Prelude.{◌≡◌, ◌⊎◌, ℕ, ◌<◌, List, length, take, Bool, Option, IsTrue, MatchOption}
 use Rattle.proto_desc.specs.DeclaredNames.{scoped}
 use Rattle.proto_desc.specs.declared.name_kind.NameKind.{NameKind}
 use Rattle.proto_desc.specs.declared.name_kind.NameKind.TheVariants as kind
 use Rattle.proto_names.specs.Occurrences.{Occurrence}
 use Rattle.proto_names.specs.Resolution.{is_message, is_type, is_scope, Decides, IsType, Visible}
 use Rattle.proto_names.specs.Runs.{at}
+use Rattle.proto_names.specs.Scopes.{is_dot}
 use Rattle.proto_names.specs.declared.resolve.Decision.{Decision}
 use Rattle.proto_names.specs.declared.resolve.Decision.TheVariants as decision
 use Rattle.proto_names.specs.declared.visible.Role.{Role}
@@ -34,6 +36,10 @@ IsTypeAmong os In what = (HasOneIn os is_message In × (what ≡ kind.Message))
 -- a full name is no type
 abbrev pub IsNoType : List Occurrence → (ℕ → Type 0) → List ℕ → Type 0
 IsNoType os Seen full = (Visible os Seen is_message full → ⊥) × (Visible os Seen is_type full → ⊥)
+
+-- the first part of a spelled name: all before its first dot, or all of it
+abbrev pub IsFirstPart : List ℕ → List ℕ → Type 0
+IsFirstPart spelled first = MatchOption (position is_dot spelled) (first ≡ spelled) (λ k. first ≡ take k spelled)
 
 -- what a scope decides of a spelled name: that it is a type of a kind there, or only that it decides
 abbrev pub IsDecision : List Occurrence → (ℕ → Type 0) → List ℕ → List ℕ → Decision → Type 0

@@ -13,7 +13,7 @@ use crate::full_name::name_in;
 use crate::scope::{Scope, shorter_prefix};
 use proto_base::Place;
 use proto_desc::enumeration::EnumDesc;
-use proto_desc::file::{FileDesc, PackageDesc};
+use proto_desc::file::{FileDesc, PackageDescriptor};
 use proto_desc::message::MessageDesc;
 use proto_desc::name_kind::NameKind;
 use proto_desc::service::ServiceDesc;
@@ -186,7 +186,7 @@ fn put_prefixes(
 fn put_package(
     entries: &mut Entries,
     file: FileId,
-    package: &Option<PackageDesc>,
+    package: &Option<PackageDescriptor>,
 ) -> Result<(), AllocError>
     ensures { OnOk result (entries.new ≡ entries.old ++ package_occurrences file «package».now) }
 {

@@ -33,4 +33,5 @@ mod visible;
 pub use full_name::{name_in, push_name};
 pub use index::{Defined, NameError, NameIndex};
 pub use resolve::{FoundType, ResolveError, Resolved, Want, resolution_is_unique};
+pub use scope::Scope;
 pub use threading::Threading;

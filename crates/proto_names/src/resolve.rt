@@ -9,11 +9,12 @@ ghost use Rattle.proto_names.specs.Occurrences.{Occurrence};
 ghost use Rattle.proto_names.specs.Resolution.{SeenBy, Decides, IsAbsolute, IsInnermost, IsType, Resolves, ResolvesNowhere, Visible};
 ghost use Rattle.proto_names.specs.SeenAlike.{AreSeenAlike, IsSeen};
 ghost use Rattle.proto_names.specs.Scopes.{IsCandidate};
-ghost use Rattle.proto_names.specs.Steps.{IsDecision, IsNoType, fits};
+ghost use Rattle.proto_names.specs.Steps.{IsDecision, IsFirstPart, IsNoType, fits};
 ghost use Rattle.proto_names.specs.declared.resolve.ResolveError.TheVariants as errors;
 ghost use Rattle.proto_names.specs.declared.resolve.Want.TheVariants as wants;
 
 use crate::full_name::name_in;
+use crate::hashing::HashedName;
 use crate::index::NameIndex;
 use crate::scope::Scope;
 use crate::visible::{Role, sees_one, type_among};
@@ -23,7 +24,7 @@ use std::alloc::{AllocError, Global};
 use thiserror::Error;
 
 /// What a type may be.
-#[derive(Clone, Copy, PartialEq, Eq)]
+#[derive(Clone, Copy)]
 pub enum Want {
     AnyType,
     MessageOnly,
@@ -86,6 +87,16 @@ impl From<AllocError> for ResolveError {
     }
 }
 
+/// The first part of a spelled name: what stands before its first dot, or all of it.
+fn first_part(spelled: &str) -> &str
+    ensures { IsFirstPart spelled.now result.now }
+{
+    match spelled.split_once('.') {
+        Some((first, _)) => first,
+        None => spelled,
+    }
+}
+
 impl NameIndex {
     /// Whether a file sees the name in a scope, of a kind that fits.
     fn is_visible(&self, links: &Links, file: FileId, role: Role, scope: Scope, name: &str) -> bool
@@ -94,7 +105,7 @@ impl NameIndex {
         ensures { IsTrue result ↔ Visible self.now.occurrences (SeenBy links.now file) (fits role)
             (scoped scope.entry.text.now name.now) }
     {
-        sees_one(links, file, role, &self.entries.scopes_named(scope, name))
+        sees_one(links, file, role, &self.entries.named(scope, name))
     }
 
     /// The kind of the type of the name in a scope.
@@ -105,11 +116,26 @@ impl NameIndex {
             (scoped scope.entry.text.now name.now)) (IsType self.now.occurrences
             (SeenBy links.now file) (scoped scope.entry.text.now name.now)) }
     {
-        type_among(links, file, &self.entries.scopes_named(scope, name))
+        type_among(links, file, &self.entries.named(scope, name))
     }
 
-    /// What a scope decides of a spelled name, if it does.
-    fn decision(&self, links: &Links, file: FileId, scope: Scope, spelled: &str) -> Option<Decision>
+    /// Whether a scope may decide what a spelled name with this first part means. Of most scopes a bit tells that they
+    /// don't.
+    fn may_decide(&self, scope: Scope, first: HashedName) -> bool
+        ensures { (seen : ℕ → Bool) (spelled : List ℕ) → IsFirstPart spelled first.entry.text.now
+            → Decides self.now.occurrences (IsSeen seen) scope.entry.text.now spelled → IsTrue result }
+    {
+        self.entries.may_be_scope(scope, first)
+    }
+
+    /// What a scope decides of a spelled name, if it does, by the entries of the names there.
+    fn decision_by_entries(
+        &self,
+        links: &Links,
+        file: FileId,
+        scope: Scope,
+        spelled: &str,
+    ) -> Option<Decision>
         requires links { count_of links.now ≡ self.now.files }
         requires file { file < self.now.files }
         ensures { MatchOption result (Decides self.now.occurrences (SeenBy links.now file)
@@ -131,25 +157,49 @@ impl NameIndex {
         }
     }
 
+    /// What a scope decides of a spelled name with this first part, if it does.
+    fn decision(
+        &self,
+        links: &Links,
+        file: FileId,
+        scope: Scope,
+        spelled: &str,
+        first: HashedName,
+    ) -> Option<Decision>
+        requires links { count_of links.now ≡ self.now.files }
+        requires file { file < self.now.files }
+        requires first { IsFirstPart spelled.now first.text.now }
+        ensures { MatchOption result (Decides self.now.occurrences (SeenBy links.now file)
+            scope.entry.text.now spelled.now → ⊥)
+            (IsDecision self.now.occurrences (SeenBy links.now file) scope.entry.text.now spelled.now) }
+    {
+        if self.may_decide(scope, first) {
+            self.decision_by_entries(links, file, scope, spelled)
+        } else {
+            None
+        }
+    }
+
     /// The innermost scope that decides what a spelled name means, with what it decides.
     fn innermost<'s>(
         &self,
         links: &Links,
         file: FileId,
-        scope: &'s str,
+        scope: Scope<'s>,
         spelled: &str,
     ) -> Option<(Scope<'s>, Decision)>
         requires links { count_of links.now ≡ self.now.files }
         requires file { file < self.now.files }
-        ensures { MatchOption result ((c : List ℕ) → IsCandidate c scope.now
+        ensures { MatchOption result ((c : List ℕ) → IsCandidate c scope.entry.text.now
             → Decides self.now.occurrences (SeenBy links.now file) c spelled.now → ⊥)
-            (λ inner. IsInnermost self.now.occurrences (SeenBy links.now file) scope.now spelled.now
+            (λ inner. IsInnermost self.now.occurrences (SeenBy links.now file) scope.entry.text.now spelled.now
             inner.0.text.now × IsDecision self.now.occurrences (SeenBy links.now file)
             inner.0.text.now spelled.now inner.1) }
     {
-        let mut inner = Scope::new(scope);
+        let first = HashedName::new(first_part(spelled));
+        let mut inner = scope;
         loop {
-            if let Some(decision) = self.decision(links, file, inner, spelled) {
+            if let Some(decision) = self.decision(links, file, inner, spelled, first) {
                 return Some((inner, decision));
             }
             match inner.parent() {
@@ -164,15 +214,15 @@ impl NameIndex {
         &self,
         links: &Links,
         file: FileId,
-        scope: &'n str,
+        scope: Scope<'n>,
         spelled: &'n str,
     ) -> Option<FoundType<'n>>
         requires links { count_of links.now ≡ self.now.files }
         requires file { file < self.now.files }
         requires relative { (rest : List ℕ) → IsAbsolute spelled.now rest → ⊥ }
         ensures { MatchOption result (ResolvesNowhere self.now.occurrences (SeenBy links.now file)
-            scope.now spelled.now) (λ t. Resolves self.now.occurrences (SeenBy links.now file)
-            scope.now spelled.now (scoped t.scope.now t.name.now) t.kind) }
+            scope.entry.text.now spelled.now) (λ t. Resolves self.now.occurrences (SeenBy links.now file)
+            scope.entry.text.now spelled.now (scoped t.scope.now t.name.now) t.kind) }
     {
         let (inner, decision) = self.innermost(links, file, scope, spelled)?;
         let kind = match decision {
@@ -192,14 +242,14 @@ impl NameIndex {
         &self,
         links: &Links,
         file: FileId,
-        scope: &'n str,
+        scope: Scope<'n>,
         spelled: &'n str,
     ) -> Option<FoundType<'n>>
         requires links { count_of links.now ≡ self.now.files }
         requires file { file < self.now.files }
         ensures { MatchOption result (ResolvesNowhere self.now.occurrences (SeenBy links.now file)
-            scope.now spelled.now) (λ t. Resolves self.now.occurrences (SeenBy links.now file)
-            scope.now spelled.now (scoped t.scope.now t.name.now) t.kind) }
+            scope.entry.text.now spelled.now) (λ t. Resolves self.now.occurrences (SeenBy links.now file)
+            scope.entry.text.now spelled.now (scoped t.scope.now t.name.now) t.kind) }
     {
         match spelled.strip_prefix('.') {
             Some(full) => {
@@ -238,7 +288,7 @@ impl NameIndex {
             × Resolves self.now.occurrences (SeenBy links.now file) scope.now spelled.now full
             kinds.Enum) }
     {
-        let Some(found) = self.find_type(links, file, scope, spelled) else {
+        let Some(found) = self.find_type(links, file, Scope::new(scope), spelled) else {
             return Err(ResolveError::TypeNotFound);
         };
         if !want.allows(found.kind) {

@@ -1,11 +1,12 @@
 //! Scopes: texts of parts with dots between them.
 
+ghost use Rattle.std.specs.List.{fold};
 ghost use Rattle.std.specs.Prelude.{◌≡◌, ◌⊎◌, ℕ, ◌<◌, [], ◌∷◌, List, length, MatchOption};
 ghost use Rattle.proto_desc.specs.DeclaredNames.{scoped};
-ghost use Rattle.proto_names.specs.Hashes.{hash_of};
+ghost use Rattle.proto_names.specs.Hashes.{hash_of, hash_step};
 ghost use Rattle.proto_names.specs.Scopes.{IsCandidate, prefixes};
 
-use crate::hashing::{hash_before, with_byte, with_text};
+use crate::hashing::{HashedName, hash_before, with_byte, with_text};
 
 /// The longest prefix of a text that a dot follows, if there is a dot.
 pub(crate) fn shorter_prefix(text: &str) -> Option<&str>
@@ -32,16 +33,19 @@ fn parent(scope: &str) -> Option<&str>
     }
 }
 
-/// A scope, and the hash of its text.
+/// A scope. It keeps the hash of its full name, which is computed once for all names that are looked up in it (language
+/// guide, "Packages and Name Resolution").
 #[derive(Clone, Copy)]
-pub(crate) struct Scope<'s> {
-    pub(crate) text: &'s str,
+pub struct Scope<'s> {
+    /// The full name, empty for what stands in no package.
+    pub text: &'s str,
     hash: u32,
     ghost hashed: { hash ≡ hash_of text.now },
 }
 
 impl<'s> Scope<'s> {
-    pub(crate) fn new(text: &'s str) -> Scope<'s>
+    /// The scope of this full name.
+    pub fn new(text: &'s str) -> Scope<'s>
         ensures { result.text.now ≡ text.entry.now }
     {
         Scope {
@@ -57,15 +61,30 @@ impl<'s> Scope<'s> {
         Scope::new("")
     }
 
+    /// The hash of what stands before a name in the scope.
+    fn hash_before_name(self) -> u32
+        ensures { (name : List ℕ) → fold hash_step result name
+            ≡ hash_of (scoped self.entry.text.now name) }
+    {
+        if self.text.is_empty() {
+            self.hash
+        } else {
+            with_byte(self.hash, b'.')
+        }
+    }
+
     /// The hash of the name in the scope.
     pub(crate) fn hash_with(self, name: &str) -> u32
         ensures { result ≡ hash_of (scoped self.entry.text.now name.now) }
     {
-        if self.text.is_empty() {
-            with_text(self.hash, name)
-        } else {
-            with_text(with_byte(self.hash, b'.'), name)
-        }
+        with_text(self.hash_before_name(), name)
+    }
+
+    /// The hash of the name in the scope, by one product.
+    pub(crate) fn hash_of_name(self, name: HashedName) -> u32
+        ensures { result ≡ hash_of (scoped self.entry.text.now name.entry.text.now) }
+    {
+        name.behind(self.hash_before_name())
     }
 
     /// The scope around this one, whose hash comes out of this one's.

@@ -38,7 +38,7 @@ impl ScopeHashes {
         Ok(ScopeHashes { bits, slots })
     }
 
-    /// Whether a scope may have a name of this hash.
+    /// Whether the full name of a scope may have this hash.
     pub(crate) fn tells(&self, hash: u32) -> bool
         ensures { result ≡ tells self.now.bits self.now.slots hash }
     {

@@ -81,6 +81,14 @@ impl EntryTable {
         })
     }
 
+    /// Whether the full name of a scope may have this hash. Of most names that are none a bit tells so.
+    pub(crate) fn may_be_scope(&self, hash: u32) -> bool
+        ensures { (o : Occurrence) → Contains self.now o → IsTrue (is_scope o.kind)
+            → hash_of o.name ≡ hash → IsTrue result }
+    {
+        self.scopes.tells(hash)
+    }
+
     /// The entries of the name in a scope, which has this hash.
     pub(crate) fn named(&self, scope: Scope, hash: u32, name: &str) -> NameEntries<'_>
         requires hash { hash ≡ hash_of (scoped scope.text.now name.now) }
@@ -98,26 +106,6 @@ impl EntryTable {
             hash,
             name,
         )
-    }
-
-    /// The entries of the name in a scope, which has this hash, or none where no scope has this name.
-    pub(crate) fn scopes_named(&self, scope: Scope, hash: u32, name: &str) -> NameEntries<'_>
-        requires hash { hash ≡ hash_of (scoped scope.text.now name.now) }
-        ensures found { (o : Occurrence) → Contains result.names o
-            → Contains self.now o × (o.name ≡ scoped scope.entry.text.now name.now) }
-        ensures scopes { (o : Occurrence) → Contains self.now o
-            → o.name ≡ scoped scope.entry.text.now name.now → IsTrue (is_scope o.kind)
-            → Contains result.names o }
-        ensures files { IfSome result.files (λ p. IsPackageOf result.names p.files.now p.row) }
-    {
-        if self.scopes.tells(hash) {
-            self.named(scope, hash, name)
-        } else {
-            NameEntries {
-                names: self.entries.names().take(0),
-                files: None,
-            }
-        }
     }
 }
 

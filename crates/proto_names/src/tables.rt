@@ -8,6 +8,7 @@ ghost use Rattle.proto_names.specs.Packages.{IsPackageOf};
 ghost use Rattle.proto_names.specs.Resolution.{is_scope};
 ghost use Rattle.proto_names.specs.Shares.{AreInShares, all_of};
 
+use crate::hashing::HashedName;
 use crate::scope::Scope;
 use crate::table::{EntryTable, NameEntries};
 use std::marker::Model;
@@ -48,6 +49,16 @@ impl Tables {
         &self.tables[hash as usize % self.tables.len()]
     }
 
+    /// Whether the name in a scope may be a scope's full name.
+    pub(crate) fn may_be_scope(&self, scope: Scope, name: HashedName) -> bool
+        ensures { (o : Occurrence) → Contains self.now o
+            → o.name ≡ scoped scope.entry.text.now name.entry.text.now → IsTrue (is_scope o.kind)
+            → IsTrue result }
+    {
+        let hash = scope.hash_of_name(name);
+        self.with_hash(hash).may_be_scope(hash)
+    }
+
     /// The entries of the name in a scope.
     pub(crate) fn named(&self, scope: Scope, name: &str) -> NameEntries<'_>
         ensures found { (o : Occurrence) → Contains result.names o
@@ -58,18 +69,5 @@ impl Tables {
     {
         let hash = scope.hash_with(name);
         self.with_hash(hash).named(scope, hash, name)
-    }
-
-    /// The entries of the name in a scope, or none where no scope has this name.
-    pub(crate) fn scopes_named(&self, scope: Scope, name: &str) -> NameEntries<'_>
-        ensures found { (o : Occurrence) → Contains result.names o
-            → Contains self.now o × (o.name ≡ scoped scope.entry.text.now name.now) }
-        ensures scopes { (o : Occurrence) → Contains self.now o
-            → o.name ≡ scoped scope.entry.text.now name.now → IsTrue (is_scope o.kind)
-            → Contains result.names o }
-        ensures files { IfSome result.files (λ p. IsPackageOf result.names p.files.now p.row) }
-    {
-        let hash = scope.hash_with(name);
-        self.with_hash(hash).scopes_named(scope, hash, name)
     }
 }

@@ -40,7 +40,7 @@ Gives tree (Err e) rest o = Fails e rest o
 abbrev pub Reads : {X : Type 0} → (X → Tree) → Grammar → Result X Stop → List Token → List Token → Type 0
 Reads tree g result old new = Gives tree result new (read g (spellings old))
 
--- A method took a tree of that grammar, which the next token begins, or nothing, where it does not.
+-- A method took a tree of that grammar, which is of one token, or nothing, where the next token does not begin it.
 abbrev pub TakesIf : {X : Type 0} → (X → Tree) → Grammar → Option X → List Token → List Token → Type 0
 TakesIf tree g None old new = (next_fits (begins g) (spellings old) ≡ false) × (new ≡ old)
 TakesIf tree g (Some x) old new =

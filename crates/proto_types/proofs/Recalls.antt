@@ -8,7 +8,7 @@ use Rattle.proto_names.specs.Resolution.IsType.{message, enumeration}
 use Rattle.proto_names.specs.declared.resolve.Want.{Want}
 use Rattle.proto_names.specs.declared.resolve.Want.TheVariants as want
 use Rattle.proto_desc.specs.declared.name_kind.NameKind.{NameKind}
-use Rattle.proto_desc.specs.declared.options.OptionDesc.{OptionDesc}
+use Rattle.proto_desc.specs.declared.options.OptionDescriptor.{OptionDescriptor}
 use Rattle.proto_base.specs.declared.place.Place.{Place}
 use Rattle.proto_types.specs.declared.recalled.Recalled.{Recalled}
 use Rattle.proto_types.proofs.Meanings.{naming_means, not_found, not_message}
@@ -22,7 +22,7 @@ found_one P test (y ∷ ys) x all is =
 
 module _ (os : List Occurrence) (Seen : ℕ → Type 0) where
   by_kind : (scope text : List ℕ) (place : Place) (wanted : Want)
-      (options : List OptionDesc) (t : FoundType) (m : Meaning) (what : NameKind) → t.kind ≡ what
+      (options : List OptionDescriptor) (t : FoundType) (m : Meaning) (what : NameKind) → t.kind ≡ what
       → IsType os Seen (scoped t.scope.now t.name.now) what
       → Resolves os Seen scope text (scoped t.scope.now t.name.now) t.kind → IsMeaningBy wanted (Some t) place options m
       → IsMeaning os Seen (reference_to scope text place wanted options) m
@@ -38,7 +38,7 @@ module _ (os : List Occurrence) (Seen : ℕ → Type 0) where
 
   -- what is made of what a name means is what a reference to it means
   pub meaning_by : (scope text : List ℕ) (place : Place) (wanted : Want)
-      (options : List OptionDesc) (found : Option FoundType) (m : Meaning)
+      (options : List OptionDescriptor) (found : Option FoundType) (m : Meaning)
       → IsNamed os Seen scope text found → IsMeaningBy wanted found place options m
       → IsMeaning os Seen (reference_to scope text place wanted options) m
   meaning_by scope text place wanted options None m none is =

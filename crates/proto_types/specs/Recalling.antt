@@ -6,7 +6,7 @@ use Rattle.proto_base.specs.declared.place.Place.{Place}
 use Rattle.proto_desc.specs.DeclaredNames.{scoped}
 use Rattle.proto_desc.specs.declared.name_kind.NameKind.{NameKind}
 use Rattle.proto_desc.specs.declared.name_kind.NameKind.TheVariants as name_kind
-use Rattle.proto_desc.specs.declared.options.OptionDesc.{OptionDesc}
+use Rattle.proto_desc.specs.declared.options.OptionDescriptor.{OptionDescriptor}
 use Rattle.proto_names.specs.Occurrences.{Occurrence}
 use Rattle.proto_names.specs.Resolution.{Resolves, ResolvesNowhere}
 use Rattle.proto_names.specs.declared.resolve.FoundType.{FoundType}
@@ -35,7 +35,7 @@ abbrev pub Fits : Want → NameKind → Type 0
 Fits wanted what = wanted ≡ want.MessageOnly → what ≡ name_kind.Message
 
 -- what was found, where such a type is wanted, with these options
-abbrev pub IsMeaningBy : Want → Option FoundType → Place → List OptionDesc → Meaning → Type 0
+abbrev pub IsMeaningBy : Want → Option FoundType → Place → List OptionDescriptor → Meaning → Type 0
 IsMeaningBy wanted None place options meaning = meaning ≡ Wrong (spot place kind.TypeNotFound)
 IsMeaningBy wanted (Some t) place options meaning =
     (Fits wanted t.kind → IsNaming (scoped t.scope.now t.name.now) (type_kind_of t.kind) options meaning)

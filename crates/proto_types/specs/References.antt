@@ -11,7 +11,7 @@ use Rattle.proto_desc.specs.declared.message.MessageDesc.{MessageDesc}
 use Rattle.proto_desc.specs.declared.message.MessageDesc.TheOpen.{MessageDesc-F}
 use Rattle.proto_desc.specs.declared.message.MessageDesc.TheFolds.{fold-MessageDesc}
 use Rattle.proto_desc.specs.declared.name_kind.NameKind.TheVariants as name_kind
-use Rattle.proto_desc.specs.declared.options.OptionDesc.{OptionDesc}
+use Rattle.proto_desc.specs.declared.options.OptionDescriptor.{OptionDescriptor}
 use Rattle.proto_desc.specs.declared.options.OptionValue.TheVariants as value
 use Rattle.proto_desc.specs.declared.service.MethodDesc.{MethodDesc}
 use Rattle.proto_desc.specs.declared.service.ServiceDesc.{ServiceDesc}
@@ -32,17 +32,17 @@ pub record Reference : Type 0 where
   pub text : List ℕ
   pub place : Place
   pub wanted : Want
-  pub options : List OptionDesc
+  pub options : List OptionDescriptor
 
-abbrev pub reference_to : List ℕ → List ℕ → Place → Want → List OptionDesc → Reference
+abbrev pub reference_to : List ℕ → List ℕ → Place → Want → List OptionDescriptor → Reference
 reference_to scope text place wanted options =
     record { scope = scope; text = text; place = place; wanted = wanted; options = options }
 
-abbrev pub references_of_type : List ℕ → Want → List OptionDesc → TypeReference → List Reference
+abbrev pub references_of_type : List ℕ → Want → List OptionDescriptor → TypeReference → List Reference
 references_of_type scope wanted options (Spelled text place) = reference_to scope text place wanted options ∷ []
 references_of_type scope wanted options (Resolved full_name what) = []
 
-abbrev pub references_of_kind : List ℕ → List OptionDesc → FieldKind → List Reference
+abbrev pub references_of_kind : List ℕ → List OptionDescriptor → FieldKind → List Reference
 references_of_kind scope options (Scalar s) = []
 references_of_kind scope options (Named r) = references_of_type scope want.AnyType options r
 
@@ -86,13 +86,13 @@ TypeNotMessage os Seen r x = (r.wanted ≡ want.MessageOnly)
     × ((full : List ℕ) × Resolves os Seen r.scope r.text full name_kind.Enum) × (x ≡ spot r.place kind.TypeNotMessage)
 
 -- `packed`, field 2 of `FieldOptions`, is set
-abbrev pub IsPacked : OptionDesc → Type 0
+abbrev pub IsPacked : OptionDescriptor → Type 0
 IsPacked o = (o.number ≡ 2) × (o.value ≡ value.Number 1)
 
 abbrev pub PackedOnMessage : List Occurrence → (ℕ → Type 0) → Reference → Spot → Type 0
 PackedOnMessage os Seen r x =
-    ((full : List ℕ) × Resolves os Seen r.scope r.text full name_kind.Message) × (o : OptionDesc) × Contains r.options o
-    × IsPacked o
+    ((full : List ℕ) × Resolves os Seen r.scope r.text full name_kind.Message)
+    × (o : OptionDescriptor) × Contains r.options o × IsPacked o
     × (x ≡ spot o.place kind.PackedOnMessage)
 
 abbrev pub ReferenceBreaks : List Occurrence → (ℕ → Type 0) → Reference → Spot → Type 0

@@ -4,7 +4,7 @@ use Rattle.std.specs.List.{AllZip}
 use Rattle.proto_base.specs.declared.kind.Kind.TheVariants as kind
 use Rattle.proto_desc.specs.declared.name_kind.NameKind.{NameKind}
 use Rattle.proto_desc.specs.declared.name_kind.NameKind.TheVariants as name_kind
-use Rattle.proto_desc.specs.declared.options.OptionDesc.{OptionDesc}
+use Rattle.proto_desc.specs.declared.options.OptionDescriptor.{OptionDescriptor}
 use Rattle.proto_desc.specs.declared.type_name.TypeKind.{TypeKind}
 use Rattle.proto_desc.specs.declared.type_name.TypeKind.TheVariants as type_kind
 use Rattle.proto_base.specs.Least.{IsLeast, spot}
@@ -31,16 +31,16 @@ type_kind_of name_kind.Service = type_kind.Enum
 type_kind_of name_kind.Method = type_kind.Enum
 
 -- an option that a field of a message's type may not have
-abbrev pub SetsPacked : OptionDesc → Spot → Type 0
+abbrev pub SetsPacked : OptionDescriptor → Spot → Type 0
 SetsPacked o x = IsPacked o × (x ≡ spot o.place kind.PackedOnMessage)
 
 -- what is wrong with the options of a field whose type is of this kind
-abbrev pub IsPackedFault : TypeKind → List OptionDesc → Option Spot → Type 0
+abbrev pub IsPackedFault : TypeKind → List OptionDescriptor → Option Spot → Type 0
 IsPackedFault type_kind.Message options fault = IsLeast (Each options SetsPacked) fault
 IsPackedFault type_kind.Enum options fault = fault ≡ None
 
 -- what a full name of a type of this kind is found to be, as the type of a field with these options
-abbrev pub IsNaming : List ℕ → TypeKind → List OptionDesc → Meaning → Type 0
+abbrev pub IsNaming : List ℕ → TypeKind → List OptionDescriptor → Meaning → Type 0
 IsNaming full what options (Named t) =
     IsPackedFault what options None × (string_bytes t.full_name ≡ 46 ∷ full) × (t.kind ≡ what)
 IsNaming full what options (Wrong x) = IsPackedFault what options (Some x)

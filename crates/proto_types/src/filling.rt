@@ -3,7 +3,7 @@
 //! Each list is taken as a `Vec`, its items are changed where they are, and it is put back: nothing is copied.
 
 ghost use Rattle.std.specs.Prelude.{List};
-ghost use Rattle.proto_desc.specs.declared.options.OptionDesc.{OptionDesc};
+ghost use Rattle.proto_desc.specs.declared.options.OptionDescriptor.{OptionDescriptor};
 ghost use Rattle.proto_names.specs.declared.resolve.Want.{Want};
 ghost use Rattle.proto_types.specs.References.{references_of_type, references_of_kind, references_of_field, references_by_message, references_of_method, references_of_service, references_in};
 ghost use Rattle.proto_types.specs.Steps.{AreFilled, IsFilled};
@@ -23,7 +23,7 @@ use std::mem;
 
 /// Puts the next type where a name is spelled. (Where there is none, the name stays.)
 fn fill_reference<'s>(reference: &mut TypeReference<'s>, types: &mut VecDeque<NamedType>)
-    ensures { (want : Want) (options : List OptionDesc)
+    ensures { (want : Want) (options : List OptionDescriptor)
         → IsFilled (λ scope. references_of_type scope want options) IsTyped reference.old
         reference.new types.old.items types.new.items }
 {
@@ -42,7 +42,7 @@ fn fill_reference<'s>(reference: &mut TypeReference<'s>, types: &mut VecDeque<Na
 }
 
 fn fill_kind<'s>(kind: &mut FieldKind<'s>, types: &mut VecDeque<NamedType>)
-    ensures { (options : List OptionDesc)
+    ensures { (options : List OptionDescriptor)
         → IsFilled (λ scope. references_of_kind scope options) IsTypedKind kind.old kind.new
         types.old.items types.new.items }
 {

@@ -15,11 +15,11 @@ use proto_base::{Kind, Place, Spot};
 use proto_desc::field::{FieldDesc, FieldKind};
 use proto_desc::file::FileDesc;
 use proto_desc::message::MessageDesc;
-use proto_desc::options::OptionDesc;
+use proto_desc::options::OptionDescriptor;
 use proto_desc::service::{MethodDesc, ServiceDesc};
 use proto_desc::type_name::TypeReference;
 use proto_links::{FileId, Links};
-use proto_names::{FoundType, NameIndex, Want, name_in};
+use proto_names::{FoundType, NameIndex, Scope, Want, name_in};
 use std::alloc::{AllocError, Global};
 
 /// What a name means of which this was found, where such a type is wanted, with these options.
@@ -28,7 +28,7 @@ fn meaning_by(
     found: Option<FoundType>,
     place: Place,
     want: Want,
-    options: &[OptionDesc],
+    options: &[OptionDescriptor],
 ) -> Result<Meaning, AllocError>
     ensures { IfOk result (IsMeaningBy want found.entry place options.now) }
 {
@@ -55,20 +55,20 @@ impl<'i> Finder<'i> {
     /// What a name means in a scope of which names are recalled, where such a type is wanted, with these options.
     fn meaning<'d>(
         &self,
-        scope: &'d str,
+        scope: Scope<'d>,
         text: &'d str,
         place: Place,
         want: Want,
-        options: &[OptionDesc],
+        options: &[OptionDescriptor],
         recalled: &mut Vec<Recalled<'d>>,
     ) -> Result<Meaning, AllocError>
         requires { AreRecalled self.now.index.now.occurrences
-            (SeenBy self.now.links.now self.now.file) scope.now recalled.old.items }
+            (SeenBy self.now.links.now self.now.file) scope.text.now recalled.old.items }
         ensures meaning { IfOk result (IsMeaning self.now.index.now.occurrences
             (SeenBy self.now.links.now self.now.file)
-            (reference_to scope.now text.now place want options.now)) }
+            (reference_to scope.entry.text.now text.now place want options.now)) }
         ensures recalled { OnOk result (AreRecalled self.now.index.now.occurrences
-            (SeenBy self.now.links.now self.now.file) scope.now recalled.new.items) }
+            (SeenBy self.now.links.now self.now.file) scope.entry.text.now recalled.new.items) }
     {
         if let Some(one) = recalled_as(recalled, text) {
             return meaning_by(self.alloc, one.found, place, want, options);
@@ -88,20 +88,20 @@ impl<'i> Finder<'i> {
     /// The name of a type, in a scope of which names are recalled.
     fn reference<'d>(
         &self,
-        scope: &'d str,
+        scope: Scope<'d>,
         reference: &'d TypeReference,
         want: Want,
-        options: &[OptionDesc],
+        options: &[OptionDescriptor],
         recalled: &mut Vec<Recalled<'d>>,
         found: &mut Found,
     ) -> Result<(), AllocError>
         requires { AreRecalled self.now.index.now.occurrences
-            (SeenBy self.now.links.now self.now.file) scope.now recalled.old.items }
+            (SeenBy self.now.links.now self.now.file) scope.text.now recalled.old.items }
         ensures found { OnOk result (Finds self.now.index.now.occurrences
             (SeenBy self.now.links.now self.now.file)
-            (references_of_type scope.now want options.now reference.now) found.old found.new) }
+            (references_of_type scope.entry.text.now want options.now reference.now) found.old found.new) }
         ensures recalled { OnOk result (AreRecalled self.now.index.now.occurrences
-            (SeenBy self.now.links.now self.now.file) scope.now recalled.new.items) }
+            (SeenBy self.now.links.now self.now.file) scope.entry.text.now recalled.new.items) }
     {
         match reference {
             TypeReference::Spelled { text, place } => {
@@ -114,18 +114,18 @@ impl<'i> Finder<'i> {
 
     fn field<'d>(
         &self,
-        scope: &'d str,
+        scope: Scope<'d>,
         field: &'d FieldDesc,
         recalled: &mut Vec<Recalled<'d>>,
         found: &mut Found,
     ) -> Result<(), AllocError>
         requires { AreRecalled self.now.index.now.occurrences
-            (SeenBy self.now.links.now self.now.file) scope.now recalled.old.items }
+            (SeenBy self.now.links.now self.now.file) scope.text.now recalled.old.items }
         ensures found { OnOk result (Finds self.now.index.now.occurrences
-            (SeenBy self.now.links.now self.now.file) (references_of_field scope.now field.now)
+            (SeenBy self.now.links.now self.now.file) (references_of_field scope.entry.text.now field.now)
             found.old found.new) }
         ensures recalled { OnOk result (AreRecalled self.now.index.now.occurrences
-            (SeenBy self.now.links.now self.now.file) scope.now recalled.new.items) }
+            (SeenBy self.now.links.now self.now.file) scope.entry.text.now recalled.new.items) }
     {
         match &field.field_type {
             FieldKind::Scalar(_) => Ok(()),
@@ -141,9 +141,10 @@ impl<'i> Finder<'i> {
             (SeenBy self.now.links.now self.now.file)
             (flat_map (references_of_field scope.now) fields.now) found.old found.new) }
     {
+        let inside = Scope::new(scope);
         let mut recalled = Vec::new(self.alloc);
         for field in fields {
-            self.field(scope, field, &mut recalled, found)?;
+            self.field(inside, field, &mut recalled, found)?;
         }
         Ok(())
     }
@@ -193,18 +194,18 @@ impl<'i> Finder<'i> {
     /// A method of the service of this full name, of which names are recalled.
     fn method<'d>(
         &self,
-        service: &'d str,
+        service: Scope<'d>,
         method: &'d MethodDesc,
         recalled: &mut Vec<Recalled<'d>>,
         found: &mut Found,
     ) -> Result<(), AllocError>
         requires { AreRecalled self.now.index.now.occurrences
-            (SeenBy self.now.links.now self.now.file) service.now recalled.old.items }
+            (SeenBy self.now.links.now self.now.file) service.text.now recalled.old.items }
         ensures found { OnOk result (Finds self.now.index.now.occurrences
-            (SeenBy self.now.links.now self.now.file) (references_of_method service.now method.now)
+            (SeenBy self.now.links.now self.now.file) (references_of_method service.entry.text.now method.now)
             found.old found.new) }
         ensures recalled { OnOk result (AreRecalled self.now.index.now.occurrences
-            (SeenBy self.now.links.now self.now.file) service.now recalled.new.items) }
+            (SeenBy self.now.links.now self.now.file) service.entry.text.now recalled.new.items) }
     {
         let want = Want::MessageOnly;
         self.reference(service, &method.input, want, &[], recalled, found)?;
@@ -223,7 +224,7 @@ impl<'i> Finder<'i> {
             found.old found.new) }
     {
         let full = name_in(self.alloc, scope, service.name.as_str())?;
-        let inside = full.as_str();
+        let inside = Scope::new(full.as_str());
         let mut recalled = Vec::new(self.alloc);
         for method in service.methods.as_slice() {
             self.method(inside, method, &mut recalled, found)?;

@@ -9,7 +9,7 @@ ghost use Rattle.proto_types.specs.Steps.{type_kind_of, SetsPacked, IsNaming};
 
 use proto_base::{Kind, Spot, lesser};
 use proto_desc::name_kind::NameKind;
-use proto_desc::options::{OptionDesc, OptionValue};
+use proto_desc::options::{OptionDescriptor, OptionValue};
 use proto_desc::type_name::TypeKind;
 use proto_names::{FoundType, push_name};
 use std::alloc::{AllocError, Global};
@@ -44,14 +44,14 @@ fn type_kind(kind: NameKind) -> TypeKind
 const PACKED: u32 = 2;
 
 /// Whether an option is `packed = true`.
-fn is_packed(option: &OptionDesc) -> bool
+fn is_packed(option: &OptionDescriptor) -> bool
     ensures { IsTrue result ↔ IsPacked option.now }
 {
     option.number == PACKED && matches!(option.value, OptionValue::Number(1))
 }
 
 /// An option that sets `packed`, as a fault.
-fn option_fault(option: &OptionDesc) -> Option<Spot>
+fn option_fault(option: &OptionDescriptor) -> Option<Spot>
     ensures { IsLeast (SetsPacked option.now) result }
 {
     if is_packed(option) {
@@ -65,7 +65,7 @@ fn option_fault(option: &OptionDesc) -> Option<Spot>
 }
 
 /// The first option that sets `packed`, as a fault.
-fn packed_fault(options: &[OptionDesc]) -> Option<Spot>
+fn packed_fault(options: &[OptionDescriptor]) -> Option<Spot>
     ensures { IsLeast (Each options.now SetsPacked) result }
 {
     let mut first = None;
@@ -90,7 +90,7 @@ fn absolute(alloc: Global, scope: &str, name: &str) -> Result<String, AllocError
 pub(crate) fn meaning_of(
     alloc: Global,
     found: FoundType,
-    options: &[OptionDesc],
+    options: &[OptionDescriptor],
 ) -> Result<Meaning, AllocError>
     ensures { IfOk result (IsNaming (scoped found.entry.scope.now found.entry.name.now)
         (type_kind_of found.entry.kind) options.now) }

@@ -1,7 +1,8 @@
 //! Answering a reflection stream over gRPC-Web: from the bytes of a request body to those of the response.
 //!
 //! The standards are gRPC's PROTOCOL-WEB.md and `reflection.proto` of `grpc.reflection.v1`. How a body is read is said by the
-//! crate `reflect_requests`, whose calls are calls of this crate too, and which files go with which reply by `first_reach`.
+//! crate `reflect_requests`, whose `read_request` and `read_frames` are calls of this crate too, and which files go with which
+//! reply by `first_reach`.
 #![tactic(auto)]
 
 mod answer;
@@ -15,8 +16,5 @@ mod response;
 pub use body::answer_body;
 pub use first_reach::Mode;
 pub use laws::{replies_are_short, responses_are_unique};
-pub use reflect_requests::{
-    Ask, Frames, Message, Request, Stream, frames_are_unique, read_frames, read_request,
-    read_stream, requests_are_unique,
-};
+pub use reflect_requests::{Ask, Frames, Request, read_frames, read_request};
 pub use response::response_without_replies;

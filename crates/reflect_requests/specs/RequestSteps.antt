@@ -17,7 +17,7 @@ member_in (Member asked) = Some (ask_of asked)
 member_in Unknown = None
 
 -- what a well-formed field says
-pub record Says (field : ℕ × Value) (part : Said) : Type 0 where
+pub record Says (field : ℕ × Value) (said : Said) : Type 0 where
   pub known : IsWellFormed field
-  pub host : host_in part ≡ host_of field
-  pub member : member_in part ≡ member_of field
+  pub host : host_in said ≡ host_of field
+  pub member : member_in said ≡ member_of field

@@ -12,7 +12,7 @@ use proto_base::{Limit, Limits};
 use std::alloc::{AllocError, Global};
 use wire_format::WireError;
 
-/// The status of a stream, as gRPC names them.
+/// The status of a stream, with gRPC's names and numbers (statuscodes.md).
 #[derive(Clone, Copy)]
 pub enum Status {
     /// The body ends where a frame would begin.

@@ -77,8 +77,8 @@ fn check_extension(alloc: Global, message: &[u8]) -> Result<(), WireError>
 }
 
 /// What a field says, by its number in `ServerReflectionRequest`.
-fn part_of<'b>(alloc: Global, field: &Field<'b>) -> Result<Said<'b>, WireError>
-    ensures part { IfOk result (Says (field_of field.now)) }
+fn said_by<'b>(alloc: Global, field: &Field<'b>) -> Result<Said<'b>, WireError>
+    ensures says { IfOk result (Says (field_of field.now)) }
     ensures malformed { result ≡ Err errors.Malformed → ¬ IsWellFormed (field_of field.now) }
 {
     let FieldValue::Delimited(bytes) = field.value else {
@@ -121,7 +121,7 @@ pub fn read_request<'b>(alloc: Global, message: &'b [u8]) -> Result<Request<'b>,
     let mut host = "";
     let mut ask = Ask::Nothing;
     for field in &fields {
-        match part_of(alloc, field)? {
+        match said_by(alloc, field)? {
             Said::Host(text) => host = text,
             Said::Member(member) => ask = member,
             Said::Unknown => {}

@@ -12,7 +12,7 @@ use Rattle.schema_failure.specs.declared.failure.Failure.TheVariants as failure
 use Rattle.schema_failure.specs.declared.failure.Verdict.{Verdict}
 use Rattle.schema_failure.specs.declared.failure.Verdict.TheVariants as verdict
 use Rattle.schema_sources.specs.declared.places.Places.{Places}
-use Rattle.schema_sources.specs.Texts.{AreSourcesOf, AreStandard, AreTextsOf, Known}
+use Rattle.schema_sources.specs.Texts.{AreSourcesOf, AreStandard, AreTextsOf, KnownSources}
 use Rattle.source_folder.specs.declared.folder.NamedText.{NamedText}
 
 abbrev pub verdict_of : List Fault → Verdict
@@ -40,7 +40,7 @@ IsCheckRun limits places texts old new (Err other) = ⊥
 -- `check`: the folder could not be read, or memory was short, and nothing was written; or its texts were checked, some
 -- of
 -- which may lie elsewhere than in the root
-abbrev pub IsFolderCheck : Known → List ℕ → Writes → Writes → Result Verdict Failure → Type 0
+abbrev pub IsFolderCheck : KnownSources → List ℕ → Writes → Writes → Result Verdict Failure → Type 0
 IsFolderCheck known root old new done =
     (limits : Limits) × AreStandard limits
     × (IsErrAnd done (λ f. ((f ≡ failure.Folder) ⊎ (f ≡ failure.NoMemory)) × (new ≡ old))

@@ -5,7 +5,7 @@ ghost use Rattle.schema_check.specs.Told.{ArePlaced, AreTold, IsFirst};
 
 use file_faults::faults_of_files;
 use proto_base::{Fault, Limits};
-use proto_compile::{CompileError, LOCAL, Source, compile};
+use proto_compile::{CompileError, LOCAL_PASS, Source, compile};
 use share_work::{NoGate, Plan};
 use std::alloc::{AllocError, AllocGlobal};
 use std::thread::Threads;
@@ -44,7 +44,7 @@ where
     let Some(first) = first_fault(rt, sources, limits, plan)? else {
         return Ok(Vec::new(rt.alloc()));
     };
-    if first.pass == LOCAL {
+    if first.pass == LOCAL_PASS {
         return faults_of_files(rt, sources, limits, plan, &NoGate);
     }
     Ok(vec![in rt.alloc(); first]?)

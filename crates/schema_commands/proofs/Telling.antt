@@ -8,7 +8,7 @@ use Rattle.grpcweb_core.specs.declared.stream.IoFault.TheVariants as io
 use Rattle.proto_base.specs.declared.limits.Limits.{Limits}
 use Rattle.proto_compile.specs.declared.source.Source.{Source}
 use Rattle.schema_commands.specs.Runs.{IsDescribeRun, IsInput, IsLineOf, IsToldOf, IsToldOfFolder}
-use Rattle.schema_sources.specs.Texts.{Known}
+use Rattle.schema_sources.specs.Texts.{KnownSources}
 use Rattle.schema_failure.specs.Faults.{of_exchange, of_folder}
 use Rattle.schema_failure.specs.declared.failure.Failure.{Failure}
 use Rattle.schema_failure.specs.declared.failure.Failure.TheVariants as failure
@@ -40,7 +40,7 @@ unwritten name reads reads' writes writes' limits source line fault input is run
 
 -- ---- of a folder
 
-pub unread_folder : (limits : Limits) (known : Known) (fault : FolderFault)
+pub unread_folder : (limits : Limits) (known : KnownSources) (fault : FolderFault)
     → IsToldOfFolder limits known (of_folder fault)
 unread_folder limits known faults.Listing = inl refl
 unread_folder limits known faults.Reading = inl refl

@@ -19,7 +19,7 @@ use Rattle.schema_failure.specs.declared.failure.Failure.{Failure}
 use Rattle.schema_failure.specs.declared.failure.Failure.TheVariants as failure
 use Rattle.schema_headline.specs.Describe.{IsDescribedBy}
 use Rattle.schema_headline.specs.Headline.{IsSetOf}
-use Rattle.schema_sources.specs.Texts.{AreSourcesOf, AreStandard, AreTextsOf, Known}
+use Rattle.schema_sources.specs.Texts.{AreSourcesOf, AreStandard, AreTextsOf, KnownSources}
 use Rattle.source_folder.specs.declared.folder.NamedText.{NamedText}
 
 -- this fault is the first of the sources
@@ -75,11 +75,11 @@ IsToldOfTexts limits texts f =
 abbrev pub AreCompiledTo : Limits → List NamedText → Compilation → Type 0
 AreCompiledTo limits texts c = (sources : List Source) × AreSourcesOf texts sources × IsCompiled limits sources c
 
-abbrev pub IsCompiledTo : Limits → Known → Compilation → Type 0
+abbrev pub IsCompiledTo : Limits → KnownSources → Compilation → Type 0
 IsCompiledTo limits known c = (texts : List NamedText) × AreTextsOf known texts × AreCompiledTo limits texts c
 
 -- the failure is that the folder could not be read, want of memory, or the first fault of the folder's texts
-abbrev pub IsToldOfFolder : Limits → Known → Failure → Type 0
+abbrev pub IsToldOfFolder : Limits → KnownSources → Failure → Type 0
 IsToldOfFolder limits known f = (f ≡ failure.Folder) ⊎ ((f ≡ failure.NoMemory)
     ⊎ ((texts : List NamedText) × AreTextsOf known texts × IsToldOfTexts limits texts f))
 
@@ -98,7 +98,7 @@ IsSetRun (Some file) writes writes' set (Err f) =
     ⊎ ((f ≡ failure.Output) × (written : ℕ) × IsWrittenInPart writes writes' set written)
 
 -- `compile`: the set of the folder's texts is written; or their first fault is told, and nothing written
-abbrev pub IsCompileRun : {A B : Type 0} → Known → Option A → Writes → Writes → Result B Failure → Type 0
+abbrev pub IsCompileRun : {A B : Type 0} → KnownSources → Option A → Writes → Writes → Result B Failure → Type 0
 IsCompileRun known file writes writes' done =
     (limits : Limits) × AreStandard limits
     × (IsErrAnd done (λ f. IsToldOfFolder limits known f × (writes' ≡ writes))
@@ -107,7 +107,8 @@ IsCompileRun known file writes writes' done =
 
 -- `answer`: the exchange over what the folder's texts are compiled to; or their first fault, and nothing read or
 -- written
-abbrev pub IsAnswerRun : {A : Type 0} → Known → Mode → Reads → Reads → Writes → Writes → Result A Failure → Type 0
+abbrev pub IsAnswerRun : {A : Type 0} → KnownSources → Mode → Reads → Reads → Writes → Writes → Result A Failure
+    → Type 0
 IsAnswerRun known mode reads reads' writes writes' (Ok a) =
     (limits : Limits) × AreStandard limits × (c : Compilation) × IsCompiledTo limits known c
     × IsExchange {A = Unit {0}} mode c reads reads' writes writes' (Ok tt)

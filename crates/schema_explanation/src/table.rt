@@ -169,7 +169,7 @@ Where: that token.
 
     a.proto:2:21: Unexpected
 
-Cure: Look at what stands before it: most often a `;`, a `=` or a type is missing. Where it is the first of the file, `syntax = "proto3";` is missing, or `edition` stands for it. A map has no label, and its key is an integer, a `bool` or a `string`; a member of a oneof has no label, and is no map; it is `returns`, not `return`."#,
+Cure: Look at what stands before it: most often a `;`, a `=` or a type is missing. Where it is the first of the file, `syntax = "proto3";` is missing, or `edition` stands for it. A map has no label, and its key is an integer, a `bool` or a `string`. A member of a oneof has no label, and is no map. In a method the word is `returns`, not `return`."#,
         Topic::Kind(Kind::CustomOption) =>
             r#"An option's name begins with `(`: an option that somebody declared with `extend`. Custom options are left out of this language.
 
@@ -273,7 +273,7 @@ Where: the first token of the value.
 
 Cure: Look the option up in docs/LANGUAGE.md."#,
         Topic::Kind(Kind::FieldNumberRange) =>
-            r#"A field number or a bound of a reserved range that is not 1 to 536,870,911, or a field number from 19,000 to 19,999, which are kept for implementations.
+            r#"A field number or a bound of a reserved range that is not 1 to 536,870,911. Or a field number from 19,000 to 19,999: these are kept for implementations.
 
 Where: the number.
 
@@ -497,7 +497,7 @@ Where: the type's first token.
 
     a.proto:2:13: TypeNotFound
 
-Cure: Import the file that declares it; write the name from its package on, or with a leading `.`, if a nearer scope has the first part."#,
+Cure: Import the file that declares it. If a nearer scope has the first part of the name, write it from its package on, or with a leading `.`."#,
         Topic::Kind(Kind::TypeNotMessage) => r#"The type of a method is an enum.
 
 Where: the type's first token.

@@ -5,11 +5,11 @@ use Rattle.std.proofs.lemmas.List.{drop_more, map-append}
 use Rattle.std.proofs.lemmas.List.Elements.{All-contains, All-head, All-tail, Contains-get_or}
 use Rattle.share_work.proofs.Giving.{all_of_gives}
 use Rattle.share_work.specs.Shares.{GivesItems}
-use Rattle.source_folder.specs.Folder.{name_of, names_of}
+use Rattle.source_folder.specs.Folder.{NamedBytes, name_of, named_bytes, names_of}
 use Rattle.source_folder.specs.declared.fault.FolderFault.{FolderFault}
 use Rattle.source_folder.specs.declared.folder.NamedText.{NamedText}
 use Rattle.schema_sources.specs.Reading.{IsFirstFault, IsReadUnder, Outcome}
-use Rattle.schema_sources.specs.Texts.{AreNamesOf, AreTextsOf, Known, bytes_of, named_bytes}
+use Rattle.schema_sources.specs.Texts.{AreNamesOf, AreTextsOf, KnownSources, bytes_of}
 
 -- ---- outcomes
 
@@ -37,10 +37,10 @@ fault_behind outcomes k texts o fault before h at is =
 
 -- ---- the sources of a folder
 
-abbrev pub Under : Known → String Global → Outcome → Type 0
+abbrev pub Under : KnownSources → String Global → Outcome → Type 0
 Under known name = IsReadUnder known (string_bytes name)
 
-names_read : (known : Known) (names : List (String Global)) (texts : List NamedText)
+names_read : (known : KnownSources) (names : List (String Global)) (texts : List NamedText)
     → AllZip (Under known) names (map Ok texts) → names_of texts ≡ map string_bytes names
 names_read known [] [] all = refl
 names_read known [] (t ∷ texts) all = absurd all
@@ -49,8 +49,8 @@ names_read known (n ∷ names) (t ∷ texts) all =
     ap (λ m. m ∷ names_of texts) all.0.0
     ∙ ap (λ (ms : List (List ℕ)). string_bytes n ∷ ms) (names_read known names texts all.1)
 
-texts_read : (all rest : List (List ℕ × List ℕ)) (names : List (String Global)) (texts : List NamedText)
-    → All (Contains all) rest → map string_bytes names ≡ map (λ (source : List ℕ × List ℕ). source.0) rest
+texts_read : (all rest : List NamedBytes) (names : List (String Global)) (texts : List NamedText)
+    → All (Contains all) rest → map string_bytes names ≡ map (λ (source : NamedBytes). source.0) rest
     → AllZip (Under (Some all)) names (map Ok texts) → map named_bytes texts ≡ rest
 texts_read all [] [] [] inside same zip = refl
 texts_read all [] [] (t ∷ texts) inside same zip = absurd zip
@@ -60,34 +60,34 @@ texts_read all (s ∷ rest) (n ∷ names) [] inside same zip = absurd zip
 texts_read all (s ∷ rest) (n ∷ names) (t ∷ texts) inside same zip =
     let head : string_bytes n ≡ s.0 = ap (λ (ns : List (List ℕ)). get_or ns 0 []) same in
     let name : name_of t ≡ s.0 = zip.0.0 ∙ head in
-    let bytes : bytes_of t ≡ s.1 = All-contains (λ (source : List ℕ × List ℕ). source.0 ≡ string_bytes n
+    let bytes : bytes_of t ≡ s.1 = All-contains (λ (source : NamedBytes). source.0 ≡ string_bytes n
     → bytes_of t ≡ source.1) all s zip.0.1 (All-head (Contains all) s rest inside) (sym head) in
     let pair : named_bytes t ≡ s = ap (λ m. (m, bytes_of t)) name ∙ ap (λ b. (s.0, b)) bytes in
     let names_left = ap (λ (ns : List (List ℕ)). drop 1 ns) same in
     let rest_inside = All-tail (Contains all) s rest inside in
-    ap (λ (p : List ℕ × List ℕ). p ∷ map named_bytes texts) pair
-    ∙ ap (λ (ps : List (List ℕ × List ℕ)). s ∷ ps) (texts_read all rest names texts rest_inside names_left zip.1)
+    ap (λ (p : NamedBytes). p ∷ map named_bytes texts) pair
+    ∙ ap (λ (ps : List NamedBytes). s ∷ ps) (texts_read all rest names texts rest_inside names_left zip.1)
 
-texts_where_known : (known : Known) (names : List (String Global)) (texts : List NamedText) → AreNamesOf known names
-    → AllZip (Under known) names (map Ok texts) → AreTextsOf known texts
+texts_where_known : (known : KnownSources) (names : List (String Global)) (texts : List NamedText)
+    → AreNamesOf known names → AllZip (Under known) names (map Ok texts) → AreTextsOf known texts
 texts_where_known None names texts same zip = tt
 texts_where_known (Some all) names texts same zip =
     texts_read all all names texts (λ k d h. Contains-get_or all k d h) same zip
 
-well : (known : Known) (names : List (String Global)) (texts : List NamedText) (outcomes : List Outcome)
+well : (known : KnownSources) (names : List (String Global)) (texts : List NamedText) (outcomes : List Outcome)
     → GivesItems (λ k. Under known) 0 names outcomes → outcomes ≡ map Ok texts
     → AllZip (Under known) names (map Ok texts)
 well known names texts outcomes gives read =
     subst (AllZip (Under known) names) read (all_of_gives (Under known) 0 names outcomes gives)
 
-pub are_texts : (known : Known) (names : List (String Global)) (texts : List NamedText) (outcomes : List Outcome)
+pub are_texts : (known : KnownSources) (names : List (String Global)) (texts : List NamedText) (outcomes : List Outcome)
     → AreNamesOf known names → GivesItems (λ k. Under known) 0 names outcomes → outcomes ≡ map Ok texts
     → AreTextsOf known texts
 are_texts known names texts outcomes same gives read =
     texts_where_known known names texts same (well known names texts outcomes gives read)
 
-pub same_names : (known : Known) (names : List (String Global)) (texts : List NamedText) (outcomes : List Outcome)
-    → GivesItems (λ k. Under known) 0 names outcomes → outcomes ≡ map Ok texts
+pub same_names : (known : KnownSources) (names : List (String Global)) (texts : List NamedText)
+    (outcomes : List Outcome) → GivesItems (λ k. Under known) 0 names outcomes → outcomes ≡ map Ok texts
     → names_of texts ≡ map string_bytes names
 same_names known names texts outcomes gives read =
     names_read known names texts (well known names texts outcomes gives read)

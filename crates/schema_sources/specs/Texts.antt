@@ -7,7 +7,7 @@ use Rattle.proto_base.specs.declared.limits.Limit.{Limit}
 use Rattle.proto_base.specs.declared.limits.Limits.{Limits}
 use Rattle.proto_compile.specs.Sources.{name_of, text_of}
 use Rattle.proto_compile.specs.declared.source.Source.{Source}
-use Rattle.source_folder.specs.Folder.{names_of}
+use Rattle.source_folder.specs.Folder.{NamedBytes, named_bytes, names_of}
 use Rattle.source_folder.specs.declared.folder.NamedText.{NamedText}
 
 -- the bytes of texts
@@ -15,22 +15,19 @@ abbrev pub bytes_of : NamedText → List ℕ
 bytes_of text = text.text.items
 
 -- the name and the bytes of each source of a folder, in the order of the names, where they are known
-abbrev pub Known : Type 0
-Known = Option (List (List ℕ × List ℕ))
-
-abbrev pub named_bytes : NamedText → List ℕ × List ℕ
-named_bytes text = (string_bytes text.name, bytes_of text)
+abbrev pub KnownSources : Type 0
+KnownSources = Option (List NamedBytes)
 
 -- texts that may be those of a folder: the known ones, and no others
-abbrev pub AreTextsOf : Known → List NamedText → Type 0
+abbrev pub AreTextsOf : KnownSources → List NamedText → Type 0
 AreTextsOf known texts = IfSome known (λ sources. map named_bytes texts ≡ sources)
 
 -- names that may be those of a folder's sources: the known ones, in their order, and no others
-abbrev pub AreNamesOf : Known → List (String Global) → Type 0
+abbrev pub AreNamesOf : KnownSources → List (String Global) → Type 0
 AreNamesOf known names = IfSome known (λ sources. map string_bytes names ≡ map (λ source. source.0) sources)
 
 -- a text that may be that of the folder's source of this name: the known one, where there is one
-abbrev pub IsTextUnder : Known → (name text : List ℕ) → Type 0
+abbrev pub IsTextUnder : KnownSources → (name text : List ℕ) → Type 0
 IsTextUnder known name text = IfSome known (All (λ source. source.0 ≡ name → text ≡ source.1))
 
 -- sources with the names and the bytes of these texts, in their order

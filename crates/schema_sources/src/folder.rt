@@ -1,7 +1,7 @@
 //! Folders that sources are read from.
 
 ghost use Rattle.std.specs.Prelude.{◌≡◌, IfOk, IsTrue, None, map, string_bytes};
-ghost use Rattle.schema_sources.specs.Texts.{AreNamesOf, AreTextsOf, IsTextUnder, Known};
+ghost use Rattle.schema_sources.specs.Texts.{AreNamesOf, AreTextsOf, IsTextUnder, KnownSources};
 ghost use Rattle.proto_base.specs.NameOrder.{NamesRise};
 
 use crate::places::Elsewhere;
@@ -16,7 +16,7 @@ use std::thread::Threads;
 /// A folder that sources are read from, and the shelf on which what they import may be looked for.
 pub trait SourceFolder: Shelf {
     // Its sources, where they are known.
-    ghost sources: { Self → Known };
+    ghost sources: { Self → KnownSources };
 
     /// The names of its sources, in their order. What keeps them from being known is told before a source is read.
     fn names(&self) -> Result<Vec<String>, FolderFault>

@@ -80,7 +80,7 @@ settled words words' os os' f g y z le (inr (x, owed, low)) =
 module _ (count : ℕ) (list : ℕ → List ℕ) (words : List ℕ) (views : List MarkView)
     (k : IsMarked count list words views) (words' : List ℕ) (views' : List MarkView) where
   -- what is posted, owed or a mark was so before, or is as it is to be
-  record Next : Type 0 where
+  record Follows : Type 0 where
     falls : Falls words words' (all_owed list views) (all_owed list views')
     more : (p : ℕ × ℕ) → Contains (all_marks views) p → Contains (all_marks views') p
     posts : (p : ℕ × ℕ) → Contains (posts_of (all_calls (all_views views'))) p
@@ -92,7 +92,7 @@ module _ (count : ℕ) (list : ℕ → List ℕ) (words : List ℕ) (views : Lis
     fell : (s g : ℕ) → s < count → Contains (list s) g → Settled words' (all_owed list views') g
         (slice_index words' (s + 1)) ⊎ (slice_index words' (s + 1) ≡ slice_index words (s + 1))
 
-  IsMarked-next : IsKept count words' (all_views views') → EachAt Empty views' → Next
+  IsMarked-next : IsKept count words' (all_views views') → EachAt Empty views' → Follows
       → IsMarked count list words' views'
   IsMarked-next kept empty f = record {
     kept = kept;

@@ -7,3 +7,10 @@ name_of source = string_bytes source.name
 
 abbrev pub names_of : List NamedText → List (List ℕ)
 names_of sources = map name_of sources
+
+-- a name and the bytes of its text
+abbrev pub NamedBytes : Type 0
+NamedBytes = List ℕ × List ℕ
+
+abbrev pub named_bytes : NamedText → NamedBytes
+named_bytes source = (name_of source, source.text.items)

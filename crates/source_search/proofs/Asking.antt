@@ -1,5 +1,5 @@
 -- Names that are asked for, one after the other; rounds of a search, and its end.
-use Rattle.source_search.proofs.Common.{subst, ℕ, All, List, ◌++◌, take, drop, take-append-drop, arith, ◌≡◌, ◌∙◌, sym, ap, refl, [], ◌∷◌, map, Bool, true, false, ◌⊎◌, inl, inr, Option, Some, None, Vec, Global, String, string_bytes, if◌then◌else◌, Contains, option_map, append-nil, append_assoc, length, ◌↔◌, IfSome, flat_map, take_all, All-append, All-contains, Contains-append_left, Contains-append_right, All-map, All-push, All-weaker, Contains-push, All-cons, All-drop, All-head, All-nil, All-tail, all_of, of_map, in_map, BTreeSet, contains_text, nat_list_eq_equiv, map-append, drop-map, length-map, take-append-le, Limits, AsksFor, IsSearched, IsWorth, found_under, is_asked, sources_of, IsClosed, IsSearch, SourceImports, texts_in, IsWanted, Named, is_imported, name_in, AreWanted, is_given, named_bytes, Contains-permutation, IsPermutation-map, IsPermutation-sym, name_of, NamedText}
+use Rattle.source_search.proofs.Common.{subst, ℕ, All, List, ◌++◌, take, drop, take-append-drop, arith, ◌≡◌, ◌∙◌, sym, ap, refl, [], ◌∷◌, map, Bool, true, false, ◌⊎◌, inl, inr, Option, Some, None, Vec, Global, String, string_bytes, if◌then◌else◌, Contains, option_map, append-nil, append_assoc, length, ◌↔◌, IfSome, flat_map, take_all, All-append, All-contains, Contains-append_left, Contains-append_right, All-map, All-push, All-weaker, Contains-push, All-cons, All-drop, All-head, All-nil, All-tail, all_of, of_map, in_map, BTreeSet, contains_text, nat_list_eq_equiv, map-append, drop-map, length-map, take-append-le, Limits, AsksFor, IsSearched, IsWorth, found_under, is_asked, sources_of, IsClosed, IsSearch, SourceImports, texts_in, IsWanted, NamedBytes, is_imported, name_in, AreWanted, is_given, named_bytes, Contains-permutation, IsPermutation-map, IsPermutation-sym, name_of, NamedText}
 use Rattle.std.specs.BTreeSet as sorted
 use Rattle.std.specs.List.{IsDistinct, AllZip}
 use Rattle.std.specs.Str.{bytes_eq}
@@ -45,7 +45,7 @@ module _ (name : List ℕ) (asked later : List ℕ → Bool)
   asked_cases other h = grind (arith, cases_Bool, same_bytes)
 
   -- what was found under the name, if anything, joins the sources
-  pub found_more : (limits : Limits) (known : Known) (given sources : List Named) (found : Option (Vec ℕ Global))
+  pub found_more : (limits : Limits) (known : Known) (given sources : List NamedBytes) (found : Option (Vec ℕ Global))
       → asked name ≡ false → IsFoundOn known name found
       → IsWorth limits known given name → IsSearched limits known given sources asked
       → IsSearched limits known given (sources ++ found_under name found) later
@@ -62,15 +62,15 @@ module _ (name : List ℕ) (asked later : List ℕ → Bool)
       })
   found_more limits known given sources (Some text) new on worth s = record {
     given_in = All-weaker _ _ (Contains-append_left sources (one ∷ [])) given s.given_in;
-    asked_for = All-push (λ (source : Named). later source.0 ≡ true) sources one
+    asked_for = All-push (λ (source : NamedBytes). later source.0 ≡ true) sources one
         (All-weaker _ _ (λ source. still_asked source.0) sources s.asked_for) now_asked;
     once = subst (IsDistinct bytes_eq) (sym (map-append name_in sources (one ∷ [])))
         (IsDistinct-push nat_list_eq_equiv (map name_in sources) name s.once
         (list_any_none (bytes_eq name) (map name_in sources) (All-map (λ n. bytes_eq name n ≡ false) name_in sources
-        (All-weaker (λ (source : Named). asked source.0 ≡ true) (λ source. bytes_eq name source.0 ≡ false)
+        (All-weaker (λ (source : NamedBytes). asked source.0 ≡ true) (λ source. bytes_eq name source.0 ≡ false)
         (λ source h. false_from_ne_true _ (λ same. let e = same_bytes name source.0 same in cc))
         sources s.asked_for))));
-    wanted = λ lookup at. All-push (λ (source : Named). IsWanted limits lookup given source.0 source.1) sources one
+    wanted = λ lookup at. All-push (λ (source : NamedBytes). IsWanted limits lookup given source.0 source.1) sources one
         (s.wanted lookup at)
         (let w = worth lookup at in is_imported w.0 w.1 name text.items w.2 w.3 w.4 not_given
         (sym (found_at known lookup name (Some text) at on)));
@@ -84,14 +84,14 @@ module _ (name : List ℕ) (asked later : List ℕ → Bool)
     ];
   }
     where
-      one : Named
+      one : NamedBytes
       one = (name, text.items)
 
       -- no given source has a name that was not asked for
       not_given : Contains (map name_in given) name → ⊥
       not_given there =
           let (source, at, same) = of_map name_in given name there in
-          let h = All-contains (λ (source : Named). asked source.0 ≡ true) sources source s.asked_for
+          let h = All-contains (λ (source : NamedBytes). asked source.0 ≡ true) sources source s.asked_for
           (All-contains (Contains sources) given source s.given_in at) in
           cc
 
@@ -141,11 +141,11 @@ imports_each limits P (s ∷ sources) (l ∷ lists) zip =
 module _ (limits : Limits) (known : Known) (old new : Search) (sources : List NamedText) (lists : Lists) (done : ℕ)
     (some : sources ≡ drop done old.sources.items) (zip : AllZip (SourceImports limits) sources lists)
     (asks : AsksFor limits known (flat_map texts_in lists) old new) where
-  pub round_searched : (given : List Named) → IsSearch limits known given old → IsSearch limits known given new
+  pub round_searched : (given : List NamedBytes) → IsSearch limits known given old → IsSearch limits known given new
   round_searched given s =
       let worth = Holds limits (IsWorth limits known given) in
       let all = all_of worth old.sources.items (λ source there name imports below lookup at.
-      let wanted = All-contains (λ (one : Named). IsWanted limits lookup given one.0 one.1) (sources_of old)
+      let wanted = All-contains (λ (one : NamedBytes). IsWanted limits lookup given one.0 one.1) (sources_of old)
       (named_bytes source) (s.wanted lookup at) (in_map named_bytes old.sources.items source there) in
       (name_of source, source.text.items, wanted, imports, below)) in
       asks.searched given ((imports_each limits (IsWorth limits known given) sources lists zip).0
@@ -171,7 +171,7 @@ module _ (limits : Limits) (known : Known) (old new : Search) (sources : List Na
 -- ---- the end
 
 wanted_held : (limits : Limits) (known : Known) (lookup : Lookup) → known ≡ Some lookup
-    → (given sources : List Named) (asked : List ℕ → Bool)
+    → (given sources : List NamedBytes) (asked : List ℕ → Bool)
     → IsSearched limits known given sources asked → All (IsClosed limits asked) sources → (name text : List ℕ)
     → IsWanted limits lookup given name text
     → Contains sources (name, text)
@@ -183,7 +183,7 @@ wanted_held limits known lookup at given sources asked s closed _ _
     s.found lookup at name text (All-contains (IsClosed limits asked) sources
     (importer, its_text) closed origin name imports below) free has
 
-module _ (limits : Limits) (known : Known) (given : List Named) (search : Search)
+module _ (limits : Limits) (known : Known) (given : List NamedBytes) (search : Search)
     (s : IsSearch limits known given search) (sources : List NamedText)
     (moved : IsPermutation search.sources.items sources) where
   same : IsPermutation (sources_of search) (map named_bytes sources)
@@ -193,7 +193,7 @@ module _ (limits : Limits) (known : Known) (given : List Named) (search : Search
       → All (IsClosed limits (is_asked search)) (sources_of search)
       → AreWanted limits lookup given (map named_bytes sources)
   all_wanted lookup at closed name text = (
-    λ there. All-contains (λ (source : Named). IsWanted limits lookup given source.0 source.1) (sources_of search)
+    λ there. All-contains (λ (source : NamedBytes). IsWanted limits lookup given source.0 source.1) (sources_of search)
         (name, text) (s.wanted lookup at)
         (Contains-permutation _ _ (name, text) (IsPermutation-sym _ _ same) there),
     λ wanted. Contains-permutation _ _ (name, text) same

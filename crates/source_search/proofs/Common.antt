@@ -8,7 +8,7 @@ pub use Rattle.std.proofs.lemmas.List.Sorted.{Contains-permutation, IsPermutatio
 pub use Rattle.std.specs.BTreeSet.{BTreeSet, contains_text}
 pub use Rattle.proto_base.specs.declared.limits.Limits.{Limits}
 pub use Rattle.share_work.proofs.Sums.{all_of, of_map, in_map, in_filter, of_filter}
-pub use Rattle.source_folder.specs.Folder.{name_of, names_of}
+pub use Rattle.source_folder.specs.Folder.{NamedBytes, name_of, named_bytes, names_of}
 pub use Rattle.source_folder.specs.declared.folder.NamedText.{NamedText}
 pub use Rattle.source_search.specs.Searching.{AsksFor, IsSearched, IsWorth, found_under, is_asked, sources_of, IsClosed, IsSearch, SourceImports, texts_in}
-pub use Rattle.source_search.specs.Wanted.{IsWanted, Named, is_imported, name_in, AreWanted, is_given, named_bytes}
+pub use Rattle.source_search.specs.Wanted.{IsWanted, is_imported, name_in, AreWanted, is_given}

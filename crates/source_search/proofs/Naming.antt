@@ -1,5 +1,5 @@
 -- Names that differ, names that rise, and a search that has nothing but the given sources.
-use Rattle.source_search.proofs.Common.{common_steps, ◌≡◌, ◌∙◌, sym, ap, refl, subst, ℕ, ◌+◌, ◌<◌, List, [], ◌∷◌, length, get_or, map, arith, true, false, Ordering, Less, Equal, Greater, nat_cmp, is_lt, true≢false, take, Bool, if◌then◌else◌, Contains, nat_list_cmp_total, nat_list_eq_equiv, get_or-map, length-map, map_more, IsPermutation-map, name_of, names_of, NamedText, name_in, named_bytes, IsWanted, Named, is_given, All-contains_itself, All-map, Limits, IsSearched, all_of}
+use Rattle.source_search.proofs.Common.{common_steps, ◌≡◌, ◌∙◌, sym, ap, refl, subst, ℕ, ◌+◌, ◌<◌, List, [], ◌∷◌, length, get_or, map, arith, true, false, Ordering, Less, Equal, Greater, nat_cmp, is_lt, true≢false, take, Bool, if◌then◌else◌, Contains, nat_list_cmp_total, nat_list_eq_equiv, get_or-map, length-map, map_more, IsPermutation-map, name_of, names_of, NamedText, name_in, named_bytes, IsWanted, NamedBytes, is_given, All-contains_itself, All-map, Limits, IsSearched, all_of}
 use Rattle.std.proofs.lemmas.Map.Text.{is_eq-slice_cmp}
 use Rattle.std.proofs.lemmas.Map.Keys.{IsDistinct-from_sorted, IsDistinct-IsPermutation, apart_from_distinct, sorted_from_all_adjacent}
 use Rattle.std.specs.Cmp.Lexicographic.{slice_cmp}
@@ -79,12 +79,13 @@ pub started : (limits : Limits) (known : Known) (given : List NamedText) (asked 
     → IsSearched limits known (map named_bytes given) (map named_bytes given) asked
 started limits known given asked rising is = record {
   given_in = All-contains_itself (map named_bytes given);
-  asked_for = All-map (λ (source : Named). asked source.0 ≡ true) named_bytes given
+  asked_for = All-map (λ (source : NamedBytes). asked source.0 ≡ true) named_bytes given
       (unmapped name_of (λ name. asked name ≡ true) given
       (all_of (λ name. asked name ≡ true) (names_of given) (λ name there. is name
       ∙ list_any-from_Contains nat_list_eq_equiv name (names_of given) there)));
   once = subst (λ names. IsDistinct bytes_eq names) (sym (same_names given)) (rising_differ (names_of given) rising);
-  wanted = λ lookup at. all_of (λ (source : Named). IsWanted limits lookup (map named_bytes given) source.0 source.1)
+  wanted = λ lookup at.
+      all_of (λ (source : NamedBytes). IsWanted limits lookup (map named_bytes given) source.0 source.1)
       (map named_bytes given)
       (λ source there. is_given source.0 source.1 there);
   found = λ lookup at name text h free has. absurd (free (subst (λ names. Contains names name) (sym (same_names given))

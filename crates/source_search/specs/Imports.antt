@@ -1,13 +1,13 @@
 -- What the text of a source imports.
 use Rattle.std.specs.Prelude.{◌↔◌, ℕ, List, map, flat_map, Contains, IsTrue}
 use Rattle.proto_base.specs.declared.limits.Limits.{Limits}
-use Rattle.proto_desc.specs.declared.file.ImportDesc.{ImportDesc}
+use Rattle.proto_desc.specs.declared.file.ImportDescriptor.{ImportDescriptor}
 use Rattle.proto_file.specs.Local.{IsFile}
 use Rattle.proto_lower.specs.Files.{import_of}
 use Rattle.proto_tree.specs.declared.file.FileTree.{FileTree}
 use Rattle.source_folder.specs.Paths.{is_below}
 
-abbrev pub path_of : ImportDesc → List ℕ
+abbrev pub path_of : ImportDescriptor → List ℕ
 path_of i = i.path
 
 -- the paths that the import statements of a file name, in their order

@@ -2,11 +2,10 @@
 
 ghost use Rattle.std.specs.Prelude.{◌≡◌, ◌∷◌, [], All, IfOk, List, OnOk, flat_map, map, string_bytes};
 ghost use Rattle.proto_base.specs.declared.limits.Limits.{Limits};
-ghost use Rattle.source_folder.specs.Folder.{names_of};
+ghost use Rattle.source_folder.specs.Folder.{NamedBytes, named_bytes, names_of};
 ghost use Rattle.proto_base.specs.NameOrder.{NamesRise};
 ghost use Rattle.source_search.specs.Searching.{AsksFor, IsClosed, IsSearch, Keeps, is_asked, sources_of, texts_in};
 ghost use Rattle.source_search.specs.Shelves.{Known};
-ghost use Rattle.source_search.specs.Wanted.{Named, named_bytes};
 
 use crate::reading::imports_of_each;
 use crate::shelf::Shelf;
@@ -130,7 +129,7 @@ impl Search {
     where
         R: Threads + AllocGlobal + Sync,
         S: Shelf,
-        ensures searched { OnOk result ((given : List Named)
+        ensures searched { OnOk result ((given : List NamedBytes)
             → IsSearch limits.now (S.texts shelf.now) given self.old
             → IsSearch limits.now (S.texts shelf.now) given self.new) }
         ensures closed { OnOk result (All (IsClosed limits.now (is_asked self.new))

@@ -1,9 +1,9 @@
 //! The sources of a run.
 
 ghost use Rattle.std.specs.Prelude.{All, Contains, IfOk, IfSome, map};
-ghost use Rattle.source_folder.specs.Folder.{names_of};
+ghost use Rattle.source_folder.specs.Folder.{named_bytes, names_of};
 ghost use Rattle.proto_base.specs.NameOrder.{NamesRise};
-ghost use Rattle.source_search.specs.Wanted.{AreWanted, named_bytes};
+ghost use Rattle.source_search.specs.Wanted.{AreWanted};
 
 use crate::order::sort_by_name;
 use crate::search::Search;

@@ -12,14 +12,14 @@ use Rattle.proto_desc.specs.declared.field.FieldKind.TheVariants.{Scalar, Named}
 use Rattle.proto_desc.specs.declared.field.FieldLabel.{FieldLabel}
 use Rattle.proto_desc.specs.declared.field.FieldLabel.TheVariants.{Optional, Repeated}
 use Rattle.proto_desc.specs.declared.file.FileDesc.{FileDesc}
-use Rattle.proto_desc.specs.declared.file.ImportDesc.{ImportDesc}
-use Rattle.proto_desc.specs.declared.file.PackageDesc.{PackageDesc}
+use Rattle.proto_desc.specs.declared.file.ImportDescriptor.{ImportDescriptor}
+use Rattle.proto_desc.specs.declared.file.PackageDescriptor.{PackageDescriptor}
 use Rattle.proto_desc.specs.declared.message.MessageDesc.{MessageDesc}
 use Rattle.proto_desc.specs.declared.message.MessageDesc.TheOpen.{MessageDesc-F}
 use Rattle.proto_desc.specs.declared.message.MessageDesc.TheFolds.{fold-MessageDesc}
 use Rattle.proto_desc.specs.declared.message.ReservedRange.{ReservedRange}
 use Rattle.proto_desc.specs.declared.oneof.OneofDesc.{OneofDesc}
-use Rattle.proto_desc.specs.declared.options.OptionDesc.{OptionDesc}
+use Rattle.proto_desc.specs.declared.options.OptionDescriptor.{OptionDescriptor}
 use Rattle.proto_desc.specs.declared.options.OptionValue.{OptionValue}
 use Rattle.proto_desc.specs.declared.options.OptionValue.TheVariants.{Text, Number}
 use Rattle.proto_desc.specs.declared.service.MethodDesc.{MethodDesc}
@@ -57,7 +57,7 @@ abbrev pub setting_bytes : ℕ → OptionValue → List ℕ
 setting_bytes number (Text text) = bytes_field number text
 setting_bytes number (Number n) = number_field number n
 
-abbrev pub option_bytes : OptionDesc → List ℕ
+abbrev pub option_bytes : OptionDescriptor → List ℕ
 option_bytes o = setting_bytes o.number o.value
 
 -- the message of an element's options, which is left out where it is empty
@@ -65,7 +65,7 @@ abbrev pub options_field : ℕ → List ℕ → List ℕ
 options_field number [] = []
 options_field number (b ∷ bs) = bytes_field number (b ∷ bs)
 
-abbrev pub settings_field : ℕ → List OptionDesc → List ℕ
+abbrev pub settings_field : ℕ → List OptionDescriptor → List ℕ
 settings_field number os = options_field number (flat_map option_bytes os)
 
 -- `FieldDescriptorProto.Type`
@@ -144,7 +144,7 @@ abbrev pub range_bytes : ReservedRange → List ℕ
 range_bytes r = number_field 1 r.start ++ number_field 2 ((r.end + 1) % 2 ^ 64)
 
 -- the options of a message, and map_entry 7 of an entry
-abbrev pub message_options_bytes : List OptionDesc → Bool → List ℕ
+abbrev pub message_options_bytes : List OptionDescriptor → Bool → List ℕ
 message_options_bytes os is_map_entry = flat_map option_bytes os ++ flag_field 7 is_map_entry
 
 -- one message, with the bytes of each nested one in its place:
@@ -174,7 +174,7 @@ abbrev pub service_desc_bytes : ServiceDesc → List ℕ
 service_desc_bytes s =
     bytes_field 1 s.name ++ flat_map (λ m. bytes_field 2 (method_desc_bytes m)) s.methods ++ settings_field 3 s.options
 
-abbrev pub package_name : Option PackageDesc → Option (List ℕ)
+abbrev pub package_name : Option PackageDescriptor → Option (List ℕ)
 package_name None = None
 package_name (Some p) = Some p.name
 
@@ -183,7 +183,7 @@ public_field true position = number_field 10 position
 public_field false position = []
 
 -- the positions of the public imports among the imports, of which the first has this position
-abbrev pub public_fields : ℕ → List ImportDesc → List ℕ
+abbrev pub public_fields : ℕ → List ImportDescriptor → List ℕ
 public_fields position [] = []
 public_fields position (i ∷ is) = public_field i.is_public position ++ public_fields (position + 1) is
 

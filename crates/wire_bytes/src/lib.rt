@@ -8,7 +8,4 @@ mod backward;
 mod descriptor;
 
 pub use descriptor::file_bytes;
-pub use wire_format::{
-    Field, FieldValue, WireError, fields_are_unique, put_field, put_varint, read_fields,
-    varint_is_shortest,
-};
+pub use wire_format::{Field, FieldValue, WireError, put_field, put_varint, read_fields};

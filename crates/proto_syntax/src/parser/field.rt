@@ -39,10 +39,7 @@ impl<'s, 't> Parser<'s, 't> {
         if let Some(span) = self.optional_keyword("optional") {
             return Some(Label::Optional(span));
         }
-        if let Some(span) = self.optional_keyword("repeated") {
-            return Some(Label::Repeated(span));
-        }
-        None
+        self.optional_keyword("repeated").map(Label::Repeated)
     }
 
     /// The label and the type of a field.

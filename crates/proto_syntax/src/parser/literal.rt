@@ -22,10 +22,7 @@ impl<'s, 't> Parser<'s, 't> {
         if let Some(span) = self.optional_symbol('-') {
             return Some(Sign::Minus(span));
         }
-        if let Some(span) = self.optional_symbol('+') {
-            return Some(Sign::Plus(span));
-        }
-        None
+        self.optional_symbol('+').map(Sign::Plus)
     }
 
     /// The value of an option.

@@ -82,13 +82,7 @@ impl<'s, 't> Parser<'s, 't> {
         ensures { Reads (symbol_tree symbol) (One (Symbol symbol)) result self.old.rest.now
             self.new.rest.now }
     {
-        match self.rest {
-            [token, rest @ ..] if is_symbol(&token.kind, symbol) => {
-                self.rest = rest;
-                Ok(token.span)
-            }
-            _ => Err(Stop::Unexpected),
-        }
+        self.optional_symbol(symbol).ok_or(Stop::Unexpected)
     }
 
     /// This symbol, if it is the next token.
@@ -110,13 +104,7 @@ impl<'s, 't> Parser<'s, 't> {
         ensures { Reads (word_tree word.now) (One (OneOf (word.now ∷ []))) result self.old.rest.now
             self.new.rest.now }
     {
-        match self.rest {
-            [token, rest @ ..] if is_keyword(&token.kind, word) => {
-                self.rest = rest;
-                Ok(token.span)
-            }
-            _ => Err(Stop::Unexpected),
-        }
+        self.optional_keyword(word).ok_or(Stop::Unexpected)
     }
 
     /// This word, if it is the next token.

@@ -4,14 +4,14 @@ use super::{expect, field};
 use proto_base::{FileError, Limit, Limits, Spot};
 use proto_desc::file::FileDesc;
 use proto_desc::is_resolved;
-use proto_desc::options::{OptionDesc, OptionValue};
+use proto_desc::options::{OptionDescriptor, OptionValue};
 use proto_file::describe;
 use std::alloc::{AllocError, AllocGlobal, Global};
 use std::borrow::CowStr;
 use std::process::Abort;
 
 /// Whether the value of the first option, if there is one, is a text that is the source's own.
-fn lends(alloc: Global, options: &[OptionDesc]) -> Result<bool, AllocError> {
+fn lends(alloc: Global, options: &[OptionDescriptor]) -> Result<bool, AllocError> {
     let Some(option) = options.first() else {
         return Ok(false);
     };

@@ -10,13 +10,13 @@ use crate::descriptor::options::prepend_options;
 use proto_base::row::Row;
 use proto_base::text::Text;
 use proto_desc::enumeration::EnumDesc;
-use proto_desc::file::{FileDesc, ImportDesc, PackageDesc};
+use proto_desc::file::{FileDesc, ImportDescriptor, PackageDescriptor};
 use proto_desc::message::MessageDesc;
 use proto_desc::service::ServiceDesc;
 use std::alloc::{AllocError, Global};
 
 /// An import as a dependency is its path.
-impl<'s> Payload for ImportDesc<'s> {
+impl<'s> Payload for ImportDescriptor<'s> {
     ghost bytes = { λ import. import.path };
 
     fn prepend_to(&self, out: &mut Backward) -> Result<(), AllocError> {
@@ -24,7 +24,10 @@ impl<'s> Payload for ImportDesc<'s> {
     }
 }
 
-fn prepend_package(out: &mut Backward, package: &Option<PackageDesc>) -> Result<(), AllocError>
+fn prepend_package(
+    out: &mut Backward,
+    package: &Option<PackageDescriptor>,
+) -> Result<(), AllocError>
     ensures { OnOk result (out.new ≡ text_field 2 (package_name «package».now) ++ out.old) }
 {
     match package {
@@ -34,7 +37,7 @@ fn prepend_package(out: &mut Backward, package: &Option<PackageDesc>) -> Result<
 }
 
 /// Writes the positions of the public imports among the imports.
-fn prepend_public(out: &mut Backward, imports: &Row<ImportDesc>) -> Result<(), AllocError>
+fn prepend_public(out: &mut Backward, imports: &Row<ImportDescriptor>) -> Result<(), AllocError>
     ensures { OnOk result (out.new ≡ public_fields 0 imports.now ++ out.old) }
 {
     let imports = imports.as_slice();

@@ -8,7 +8,7 @@ use crate::descriptor::options::prepend_settings;
 use proto_base::row::Row;
 use proto_desc::message::{MessageDesc, ReservedRange};
 use proto_desc::oneof::OneofDesc;
-use proto_desc::options::OptionDesc;
+use proto_desc::options::OptionDescriptor;
 use std::alloc::AllocError;
 
 impl<'s> Payload for OneofDesc<'s> {
@@ -32,7 +32,7 @@ impl Payload for ReservedRange {
 /// Writes a message's `MessageOptions`, unless it is empty.
 fn prepend_message_options(
     out: &mut Backward,
-    options: &Row<OptionDesc>,
+    options: &Row<OptionDescriptor>,
     is_map_entry: bool,
 ) -> Result<(), AllocError>
     ensures { OnOk result (out.new ≡ options_field 7

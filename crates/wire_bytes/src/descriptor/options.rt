@@ -5,10 +5,10 @@ ghost use Rattle.wire_bytes.specs.Descriptor.{option_bytes, settings_field};
 
 use crate::backward::Backward;
 use proto_base::row::Row;
-use proto_desc::options::{OptionDesc, OptionValue};
+use proto_desc::options::{OptionDescriptor, OptionValue};
 use std::alloc::AllocError;
 
-fn prepend_setting(out: &mut Backward, option: &OptionDesc) -> Result<(), AllocError>
+fn prepend_setting(out: &mut Backward, option: &OptionDescriptor) -> Result<(), AllocError>
     ensures { OnOk result (out.new ≡ option_bytes option.now ++ out.old) }
 {
     match &option.value {
@@ -20,7 +20,7 @@ fn prepend_setting(out: &mut Backward, option: &OptionDesc) -> Result<(), AllocE
 /// Writes the settings of an element.
 pub(super) fn prepend_settings(
     out: &mut Backward,
-    options: &Row<OptionDesc>,
+    options: &Row<OptionDescriptor>,
 ) -> Result<(), AllocError>
     ensures { OnOk result (out.new ≡ flat_map option_bytes options.now ++ out.old) }
 {
@@ -34,7 +34,7 @@ pub(super) fn prepend_settings(
 pub(super) fn prepend_options(
     out: &mut Backward,
     number: u32,
-    options: &Row<OptionDesc>,
+    options: &Row<OptionDescriptor>,
 ) -> Result<(), AllocError>
     ensures { OnOk result (out.new ≡ settings_field number options.now ++ out.old) }
 {

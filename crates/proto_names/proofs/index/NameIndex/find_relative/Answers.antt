@@ -6,7 +6,7 @@ pub returns-in_err-inner : goal.returns-in_err-inner
 returns-in_err-inner c =
     rw c.from_residual.ensures
     (λ full what r. means_nothing c.args.self.now.occurrences (SeenBy c.args.links.now c.args.file)
-    c.args.scope.now c.args.spelled.now c.requires.relative c.in_err-inner.ensures full r.means)
+    c.args.scope.text.now c.args.spelled.now c.requires.relative c.in_err-inner.ensures full r.means)
 
 pub returns-in_err-kind-in-Scope : goal.returns-in_err-kind-in-Scope
 returns-in_err-kind-in-Scope c =

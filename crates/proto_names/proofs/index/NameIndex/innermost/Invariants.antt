@@ -3,9 +3,9 @@ use Rattle.proto_names.proofs.index.NameIndex.innermost.Given as goal
 
 abbrev pub invariant-loop-decision : goal.invariant-loop-decision
 invariant-loop-decision l = record {
-  within : IsCandidate l.inner.text.now l.fn.scope;
-  left : (c : List ℕ) → IsCandidate c l.fn.scope → Decides l.self.occurrences (SeenBy l.links l.file) c l.spelled
-      → IsCandidate c l.inner.text.now;
+  within : IsCandidate l.inner.text.now l.fn.scope.text.now;
+  left : (c : List ℕ) → IsCandidate c l.fn.scope.text.now
+      → Decides l.self.occurrences (SeenBy l.links l.file) c l.spelled → IsCandidate c l.inner.text.now;
 }
 
 abbrev pub decreases-loop-decision : goal.decreases-loop-decision

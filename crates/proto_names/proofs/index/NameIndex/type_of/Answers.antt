@@ -4,12 +4,12 @@ use Rattle.proto_names.proofs.index.NameIndex.type_of.Goals as goal
 
 pub type_among-requires-clause-entries : goal.type_among-requires-clause-entries
 type_among-requires-clause-entries c k d below =
-    let here = c.scopes_named.ensures.found _ (Contains-get_or c.scopes_named.result.names k d below) in
+    let here = c.named.ensures.found _ (Contains-get_or c.named.result.names k d below) in
     let files = ap (λ (index : Index). index.files) c.self.view_is in
     omega (arith, c.self.invariant.0.inside _ here.0, files, c.requires.links)
 
 pub returns : goal.returns
 returns c = rw (ap (λ (index : Index). index.occurrences) c.self.view_is)
     at (type_visible c.self.inside.entries (SeenBy c.args.links.now c.args.file)
-    (scoped c.args.scope.text.now c.args.name.now) _ c.scopes_named.ensures.found c.scopes_named.ensures.scopes _
+    (scoped c.args.scope.text.now c.args.name.now) _ c.named.ensures.found c.named.ensures.all _
     c.type_among.ensures)

@@ -5,7 +5,7 @@ use Rattle.proto_types.proofs.finder.Finder.meaning.Goals as goal
 pub returns-in-Some-clause-meaning : goal.returns-in-Some-clause-meaning
 returns-in-Some-clause-meaning c =
     let is = rw c.deref.ensures.value at (sym c.in-Some.ensures) in
-    let named = recalled_type _ _ c.args.scope.now c.args.text.now c.args.recalled.now.items c.in-Some.one.now
+    let named = recalled_type _ _ c.args.scope.text.now c.args.text.now c.args.recalled.now.items c.in-Some.one.now
     c.requires is in
     IfOk-weaker c.meaning_by.result _ _ (λ m by. meaning_by _ _ _ _ _ _ _ _ m named by) c.meaning_by.ensures
 

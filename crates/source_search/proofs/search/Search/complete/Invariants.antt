@@ -1,9 +1,9 @@
-use Rattle.source_search.proofs.Common.{◌-◌, All, List, take, IsClosed, IsSearch, is_asked, sources_of, Named}
+use Rattle.source_search.proofs.Common.{◌-◌, All, List, take, IsClosed, IsSearch, is_asked, sources_of, NamedBytes}
 use Rattle.source_search.proofs.search.Search.complete.Given as goal
 
 abbrev pub invariant-loop-done : goal.invariant-loop-done
 invariant-loop-done g l = record {
-  searched : (given : List Named) → IsSearch l.limits (g.S.Shelf.texts l.shelf) given l.fn.self
+  searched : (given : List NamedBytes) → IsSearch l.limits (g.S.Shelf.texts l.shelf) given l.fn.self
       → IsSearch l.limits (g.S.Shelf.texts l.shelf) given l.self;
   closed : All (IsClosed l.limits (is_asked l.self)) (take l.done (sources_of l.self));
 }

@@ -1,0 +1,7 @@
+use Rattle.std.proofs.Common.{rules}
+use Rattle.proto_names.proofs.index.NameIndex.resolve.Goals as goal
+
+pub returns-then-not-allows-clause-not_message : goal.returns-then-not-allows-clause-not_message
+returns-then-not-allows-clause-not_message c =
+    let found = rw (c.new.ensures, c.in-Some.is) at c.find_type.ensures in
+    search rules
