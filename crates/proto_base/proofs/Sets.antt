@@ -32,7 +32,7 @@ least_of S a c p e = (rw e at p).is
 pub at_most_itself : (a : Spot) → AtMost a a
 at_most_itself a = inr (refl, omega arith)
 
-at_most_on : (a b c : Spot) → AtMost a b → AtMost b c → AtMost a c
+pub at_most_on : (a b c : Spot) → AtMost a b → AtMost b c → AtMost a c
 at_most_on a b c h k = grind arith
 
 -- what comes no later than the least comes no later than each

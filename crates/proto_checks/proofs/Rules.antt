@@ -2,7 +2,7 @@
 use Rattle.proto_checks.proofs.Common.{◌≡◌, sym, refl, zero, suc, inl, inr, ◌⊎◌, List, [], ◌∷◌, ◌++◌, arith, Option, Some, None, Contains-push, Contains-push_cases, Contains-append_left, IsLeast, IsLesser, Spot, ◌∪◌, least_union, least_same, least_none, least_known}
 use Rattle.std.specs.Prelude.{Contains}
 use Rattle.proto_base.specs.Least.{AtMost}
-use Rattle.proto_base.proofs.Sets.{least_of}
+use Rattle.proto_base.proofs.Sets.{at_most_on, least_of}
 
 -- ---- faults in a list
 
@@ -87,9 +87,6 @@ no_later S (r ∷ rules) x h = elim (no_later (S ∪ r.spots) rules x h) [
       inr (y, among_first r.fault (faults_of rules) y is, before))
   | inr (y, there, before) ↦ inr (y, among_rest r.fault (faults_of rules) y there, before)
 ]
-
-at_most_on : (a b c : Spot) → AtMost a b → AtMost b c → AtMost a c
-at_most_on a b c h k = grind arith
 
 module _ (r : FirstOfRule) (rules : List FirstOfRule) where
   any_no_later : (x : Spot) → AnyBreaks r.spots rules x → (y : Spot) × Among (r.fault ∷ faults_of rules) y × AtMost y x

@@ -44,7 +44,7 @@ use Rattle.proto_desc.specs.declared.service.MethodDesc.{MethodDesc}
 use Rattle.proto_desc.specs.declared.service.ServiceDesc.{ServiceDesc}
 use Rattle.proto_options.specs.Statements.{file_message, file_enum, file_service, message_oneof, message_enum, oneof_field, enum_value, service_rpc, file_package}
 use Rattle.proto_lower.specs.Enums.{value_desc, lowered_enum}
-use Rattle.proto_lower.specs.Files.{package_of, package_scope, import_of, lowered, package_desc}
+use Rattle.proto_lower.specs.Files.{package_of, package_scope, import_of, lowered, package_descriptor}
 use Rattle.proto_lower.specs.Messages.{all_fields, nested_of, lowered_message}
 use Rattle.proto_lower.specs.Oneofs.{real_named, real_oneofs, with_one, with_made}
 use Rattle.proto_lower.specs.Services.{method_desc, lowered_service}
@@ -380,7 +380,7 @@ module _ (region : ℕ → Type 0) where
   -- ---- files
 
   package_within : (ps : List Package) → EachIn package_tree ps
-      → AreIn region (package_places (option_map package_desc (slice_get ps 0)))
+      → AreIn region (package_places (option_map package_descriptor (slice_get ps 0)))
   package_within [] all = tt
   package_within (p ∷ ps) all = (all.0.1.0.0, tt)
 

@@ -18,23 +18,23 @@ use Rattle.proto_lower.specs.Options.{options_of}
 use Rattle.proto_lower.specs.Services.{lowered_service}
 use Rattle.proto_tree.specs.Text.{dotted, joined}
 
-abbrev pub package_desc : Package → PackageDescriptor
-package_desc p = record { name = dotted p.name; place = p.name.first.span.start }
+abbrev pub package_descriptor : Package → PackageDescriptor
+package_descriptor p = record { name = dotted p.name; place = p.name.first.span.start }
 
 -- of several package statements the first counts
 abbrev pub package_of : List Statement → Option PackageDescriptor
-package_of ss = option_map package_desc (slice_get (flat_map file_package ss) 0)
+package_of ss = option_map package_descriptor (slice_get (flat_map file_package ss) 0)
 
 -- the full name, behind a leading dot, of what is around the top of a file
 abbrev pub package_scope : Option PackageDescriptor → List ℕ
 package_scope None = []
 package_scope (Some p) = 46 ∷ p.name
 
-abbrev pub import_desc : Import → ImportDescriptor
-import_desc i = record { path = joined i.path; place = i.path.first.span.start; is_public = is_some i.public }
+abbrev pub import_descriptor : Import → ImportDescriptor
+import_descriptor i = record { path = joined i.path; place = i.path.first.span.start; is_public = is_some i.public }
 
 abbrev pub import_of : Statement → List ImportDescriptor
-import_of (statement.Import i) = import_desc i ∷ []
+import_of (statement.Import i) = import_descriptor i ∷ []
 import_of s = []
 
 -- the descriptor of a file of this name

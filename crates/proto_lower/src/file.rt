@@ -4,7 +4,7 @@ ghost use Rattle.std.specs.Prelude.{◌≡◌, ◌∷◌, ◌++◌, [], IfOk, On
 ghost use Rattle.std.specs.Option.{option_copied};
 ghost use Rattle.proto_options.specs.Statements.{file_package, file_message, file_enum, file_service};
 ghost use Rattle.proto_lower.specs.Enums.{lowered_enum};
-ghost use Rattle.proto_lower.specs.Files.{package_of, package_scope, import_desc, import_of, lowered};
+ghost use Rattle.proto_lower.specs.Files.{package_of, package_scope, import_descriptor, import_of, lowered};
 ghost use Rattle.proto_lower.specs.Messages.{lowered_message};
 ghost use Rattle.proto_lower.specs.Services.{lowered_service};
 
@@ -67,7 +67,7 @@ fn put_import<'s>(
     out: &mut Vec<ImportDescriptor<'s>>,
     import: &Import<'s>,
 ) -> Result<(), AllocError>
-    ensures { OnOk result (out.new.items ≡ out.old.items ++ import_desc import.now ∷ []) }
+    ensures { OnOk result (out.new.items ≡ out.old.items ++ import_descriptor import.now ∷ []) }
 {
     out.push(ImportDescriptor {
         path: joined(alloc, &import.path)?,

@@ -6,3 +6,4 @@ pub mod Ordered
 pub mod Searching
 pub mod Tabled
 pub mod Unique
+mod EntryLemmas

@@ -1,7 +1,10 @@
--- The order of names by their hashes, then byte by byte, and occurrences in this order.
-use Rattle.proto_names.proofs.Common.{common_steps, ◌≡◌, ℕ, ◌<◌, ◌≤◌, List, length, arith, refl, inl, inr, ◌⊎◌, Ordering, Less, Equal, Greater, false, ◌-◌, Bool, nat_eq, [], ◌∷◌, ◌++◌, take, drop, get_or, ◌↔◌, IsTrue, take_all, slice_cmp, pointwise, bytes_decides, nat_cmp, is_eq, is_lt, ordering_index, ordering_then, nat_tests, ranks_by, sorted_far, exact_bytes, hash_of, Occurrence, IsNoLater, AreInHashOrder, AreInOrder, name_cmp, occurrence_cmp, at, blank, drop-append_seam, take-append_seam, scoped}
+-- The order of names by their hashes, then byte by byte from their ends on, and occurrences in this order.
+use Rattle.proto_names.proofs.Common.{common_steps, ◌≡◌, ◌≢◌, ◌∙◌, sym, ap, ℕ, ◌<◌, ◌≤◌, List, length, arith, refl, inl, inr, ◌⊎◌, Ordering, Less, Equal, Greater, false, [], ◌∷◌, ◌++◌, ◌↔◌, IsTrue, slice_cmp, nat_cmp, is_eq, is_lt, ordering_index, ordering_then, nat_tests, ranks_by, sorted_far, exact_bytes, hash_of, Occurrence, IsNoLater, AreInHashOrder, AreInOrder, name_cmp, occurrence_cmp, at, blank}
 use Rattle.std.specs.Cmp.{IsTotalOrder}
+use Rattle.std.specs.Prelude.{reverse}
 use Rattle.std.proofs.lemmas.Cmp.{nat_cmp_total, nat_list_cmp_total, then_total, on_total, tied_itself}
+use Rattle.std.proofs.lemmas.List.{reverse-append, reverse-reverse}
+use Rattle.proto_names.specs.Order.{end_cmp}
 
 -- ---- orderings
 
@@ -19,21 +22,66 @@ first_not o p h = grind (arith, order_tells o)
 pub then_then : (o p q : Ordering) → ordering_then o (ordering_then p q) ≡ ordering_then (ordering_then o p) q
 then_then o p q = grind (arith, order_tells o)
 
+-- ---- texts from their ends on
+
+pub end_total : IsTotalOrder end_cmp
+unfolding end_cmp
+end_total = on_total reverse nat_list_cmp_total
+
+pub exact_ends : (a b : List ℕ) → end_cmp a b ≡ Equal → a ≡ b
+unfolding end_cmp
+exact_ends a b e = sym (reverse-reverse a) ∙ ap reverse (exact_bytes (reverse a) (reverse b) e) ∙ reverse-reverse b
+
+pub ends_itself : (a b : List ℕ) → a ≡ b → end_cmp a b ≡ Equal
+ends_itself a b e = rw e (tied_itself end_total b)
+
+-- texts are equal in this order where their bytes are
+pub ends_equal : (a b : List ℕ) → IsTrue (is_eq (end_cmp a b)) ↔ (a ≡ b)
+ends_equal a b = grind (arith, order_tells (end_cmp a b), exact_ends a b, ends_itself a b)
+
+reversed_push : (a : List ℕ) (x : ℕ) → reverse (a ++ x ∷ []) ≡ x ∷ reverse a
+reversed_push a x = reverse-append a (x ∷ [])
+
+pub ends_more : (a b : List ℕ) (x : ℕ) → end_cmp (a ++ x ∷ []) (b ++ x ∷ []) ≡ end_cmp a b
+unfolding end_cmp
+ends_more a b x = rw (reversed_push a x, reversed_push b x, tied_itself nat_cmp_total x) refl
+
+slices_alike : (c a b : List ℕ) → slice_cmp nat_cmp (c ++ a) (c ++ b) ≡ slice_cmp nat_cmp a b
+slices_alike [] a b = refl
+slices_alike (x ∷ c) a b = rw (tied_itself nat_cmp_total x) (slices_alike c a b)
+
+-- what both end with tells nothing
+pub ends_alike : (a b c : List ℕ) → end_cmp (a ++ c) (b ++ c) ≡ end_cmp a b
+unfolding end_cmp
+ends_alike a b c = rw (reverse-append a c, reverse-append b c) (slices_alike (reverse c) (reverse a) (reverse b))
+
+pub ends_differ : (a b : List ℕ) (x y : ℕ) → x ≢ y → end_cmp (a ++ x ∷ []) (b ++ y ∷ []) ≡ nat_cmp x y
+unfolding end_cmp
+ends_differ a b x y other = rw (reversed_push a x, reversed_push b y)
+    (grind (arith, order_tells (nat_cmp x y), nat_tests))
+
+pub ends_longer : (a : List ℕ) (x : ℕ) → end_cmp (a ++ x ∷ []) [] ≡ Greater
+unfolding end_cmp
+ends_longer a x = rw (reversed_push a x) refl
+
+pub ends_shorter : (b : List ℕ) (y : ℕ) → end_cmp [] (b ++ y ∷ []) ≡ Less
+unfolding end_cmp
+ends_shorter b y = rw (reversed_push b y) refl
+
 -- ---- names
 
 pub name_total : IsTotalOrder name_cmp
-name_total = then_total (on_total hash_of nat_cmp_total) nat_list_cmp_total
+name_total = then_total (on_total hash_of nat_cmp_total) end_total
 
--- texts are equal in this order where their bytes are
-pub equal_alike : (a b : List ℕ) → is_eq (name_cmp a b) ≡ is_eq (slice_cmp nat_cmp a b)
+pub equal_alike : (a b : List ℕ) → is_eq (name_cmp a b) ≡ is_eq (end_cmp a b)
 equal_alike a b =
     let hashes = order_tells (nat_cmp (hash_of a) (hash_of b)) in
-    let bytes = order_tells (slice_cmp nat_cmp a b) in
-    grind (arith, hashes, bytes, exact_bytes a b, tied_itself nat_cmp_total (hash_of b))
+    let bytes = order_tells (end_cmp a b) in
+    grind (arith, hashes, bytes, exact_ends a b, tied_itself nat_cmp_total (hash_of b))
 
 -- what is equal in this order is one name
 pub same_name : (a b : List ℕ) → name_cmp a b ≡ Equal → a ≡ b
-same_name a b h = grind (arith, order_tells (nat_cmp (hash_of a) (hash_of b)), exact_bytes a b)
+same_name a b h = grind (arith, order_tells (nat_cmp (hash_of a) (hash_of b)), exact_ends a b)
 
 -- ---- occurrences
 
@@ -68,30 +116,3 @@ module _ (os : List Occurrence) (up : AreInOrder os) where
       → (at os i).name ≡ (at os j).name
   names_between i j k h g below e =
       name_between (at os i) (at os j) (at os k) (in_order i j h (omega arith)) (in_order j k g below) e
-
--- ---- a text and a name in a scope
-
-pub scoped_some : (scope name : List ℕ) → 0 < length scope → scoped scope name ≡ scope ++ 46 ∷ name
-scoped_some [] name h = absurd (omega (arith, h))
-scoped_some (c ∷ cs) name h = refl
-
--- a text's first part is as long as the scope, or it is no longer and all of the text
-pub compared : (prefix scope rest more : List ℕ) → length prefix ≤ length scope
-    → (length prefix ≡ length scope) ⊎ (rest ≡ [])
-    → slice_cmp nat_cmp (prefix ++ rest) (scope ++ 46 ∷ more)
-    ≡ ordering_then (slice_cmp nat_cmp prefix scope) (slice_cmp nat_cmp rest (46 ∷ more))
-compared [] [] rest more h all = grind (arith, common_steps)
-compared (x ∷ xs) (s ∷ ss) rest more h all =
-    grind (arith, common_steps, then_then, compared xs ss rest more (omega (arith, h)))
-compared prefix scope rest more h all = grind (arith, common_steps)
-
-pub behind_is : (rest name : List ℕ) (told : Bool) → 1 ≤ length rest → get_or rest 0 0 ≡ 46
-    → told ≡ pointwise nat_eq (take (length rest - 1) (drop 1 rest)) name → IsTrue told ↔ (rest ≡ 46 ∷ name)
-behind_is [] name told some dot is = absurd (omega (arith, some))
-behind_is (b ∷ bs) name told some dot is =
-    grind (arith, common_steps, take_all (length (b ∷ bs) - 1) bs (omega arith), bytes_decides bs name)
-
--- two texts of two parts each, the first ones as long, are equal in both parts
-pub parts_equal : (a b c d : List ℕ) → length a ≡ length c → a ++ b ≡ c ++ d → (a ≡ c) × (b ≡ d)
-parts_equal a b c d h e =
-    grind (arith, take-append_seam a b, take-append_seam c d, drop-append_seam a b, drop-append_seam c d)

@@ -1,12 +1,13 @@
 -- Occurrences that are found by keys, and halving among occurrences in the order of their names.
-use Rattle.proto_names.proofs.Common.{common_steps, ◌≡◌, ◌∙◌, sym, ap, arith, ℕ, suc, ◌+◌, ◌<◌, ◌≤◌, List, [], ◌∷◌, ◌++◌, length, map, get_or, true, false, Bool, Ordering, IsSorted, ◌≢◌, ◌-◌, take, drop, Less, Equal, Contains, ◌↔◌, slice_cmp, nat_cmp, is_lt, is_eq, ordering_then, ordering_index, get_or-map, length-map, map_push, get_or-drop, get_or-take, get_or_default, length-take, All-push, hash_of, AreKeysAmong, AreKeysOf, IsKeyAmong, at_key, found_by, hash_in, key_cmp, part_at, Occurrence, AreInOrder, name_cmp, occurrence_cmp, AreInHashOrder, all_of, cases_lt, searchable_from_sorted, exact_bytes, name_of, at, blank}
+use Rattle.proto_names.proofs.Common.{common_steps, ◌≡◌, ◌∙◌, sym, ap, arith, ℕ, suc, ◌+◌, ◌<◌, ◌≤◌, List, [], ◌∷◌, ◌++◌, length, map, get_or, true, false, Bool, Ordering, IsSorted, ◌≢◌, ◌-◌, take, drop, Less, Equal, Contains, ◌↔◌, nat_cmp, is_lt, is_eq, ordering_then, ordering_index, get_or-map, length-map, map_push, get_or-drop, get_or-take, get_or_default, length-take, All-push, hash_of, AreKeysAmong, AreKeysOf, IsKeyAmong, at_key, found_by, hash_in, key_cmp, part_at, Occurrence, AreInOrder, name_cmp, occurrence_cmp, AreInHashOrder, all_of, cases_lt, searchable_from_sorted, name_of, at, blank}
 use Rattle.std.specs.Cmp.{IsTotalOrder}
 use Rattle.std.specs.List.Sorted.{IsPartitionedBy, IsPartitionPoint, IsNonDecreasingBy}
-use Rattle.std.proofs.lemmas.Cmp.{nat_cmp_total, nat_list_cmp_total, on_total, then_total, tied_itself}
+use Rattle.std.proofs.lemmas.Cmp.{nat_cmp_total, on_total, then_total, tied_itself}
 use Rattle.std.proofs.lemmas.List.{length-drop}
-use Rattle.proto_names.proofs.Ordered.{then_then, equal_alike, name_total, order_tells, same_name}
+use Rattle.proto_names.proofs.Ordered.{end_total, ends_itself, exact_ends, then_then, equal_alike, name_total, order_tells, same_name}
 use Rattle.std.proofs.lemmas.Bool.{true≢false}
-use Rattle.proto_links.proofs.NameRows.{equal_itself, less_not_equal}
+use Rattle.proto_links.proofs.NameRows.{less_not_equal}
+use Rattle.proto_names.specs.Order.{end_cmp}
 use Rattle.proto_names.specs.Starts.{IsStart, IsNowhere}
 
 -- ---- the keys of occurrences
@@ -29,7 +30,7 @@ part_few parts k = grind (arith, common_steps)
 
 pub key_total : (parts : List (List Occurrence)) → IsTotalOrder (key_cmp parts)
 key_total parts =
-    let name = on_total (λ (key : ℕ). (at_key parts key).name) nat_list_cmp_total in
+    let name = on_total (λ (key : ℕ). (at_key parts key).name) end_total in
     let file = on_total (λ (key : ℕ). (at_key parts key).file) nat_cmp_total in
     let place = on_total (λ (key : ℕ). (at_key parts key).place.offset) nat_cmp_total in
     then_total (on_total hash_in nat_cmp_total) (then_total name (then_total file place))
@@ -56,7 +57,7 @@ sorted_found parts keys among up = sorted_map (at_key parts) occurrence_cmp keys
 pub name_order : (parts : List (List Occurrence)) (keys target : List ℕ) (hash k d : ℕ) → k < length keys
     → AreKeysAmong parts keys → hash ≡ hash_of target
     → ordering_then (nat_cmp (hash_in (get_or keys k d)) hash)
-    (slice_cmp nat_cmp (at_key parts (get_or keys k d)).name target)
+    (end_cmp (at_key parts (get_or keys k d)).name target)
     ≡ name_cmp (at_key parts (get_or keys k d)).name target
 name_order parts keys target hash k d h among is = grind (arith, common_steps, (among k d h).hashed)
 
@@ -98,7 +99,7 @@ module _ (os : List Occurrence) (target : List ℕ) (up : AreInHashOrder os) whe
   parted_less i j d h inside t = grind (arith, order_tells, rises i j d h inside)
 
   pub parted_equal : ((k : ℕ) (d : Occurrence) → k < length os → name_cmp (name_of (get_or os k d)) target ≢ Less)
-      → IsPartitionedBy (λ e. is_eq (slice_cmp nat_cmp (name_of e) target)) os
+      → IsPartitionedBy (λ e. is_eq (end_cmp (name_of e) target)) os
   parted_equal behind i j d h inside t =
       grind (arith, order_tells, equal_alike, rises i j d h inside, behind i d (omega arith))
 
@@ -109,10 +110,10 @@ pub less_point : (os : List Occurrence) (target : List ℕ) (n : ℕ)
 less_point os target n p = grind (arith, common_steps, order_tells)
 
 pub equal_point : (os : List Occurrence) (target : List ℕ) (n : ℕ)
-    → IsPartitionPoint (λ e. is_eq (slice_cmp nat_cmp (name_of e) target) ≡ true)
-    (λ e. is_eq (slice_cmp nat_cmp (name_of e) target) ≡ false) os n
+    → IsPartitionPoint (λ e. is_eq (end_cmp (name_of e) target) ≡ true)
+    (λ e. is_eq (end_cmp (name_of e) target) ≡ false) os n
     → IsPartitionPoint (λ e. name_of e ≡ target) (λ e. name_of e ≢ target) os n
-equal_point os target n p = grind (arith, common_steps, true≢false, exact_bytes, equal_itself)
+equal_point os target n p = grind (arith, common_steps, true≢false, exact_ends, ends_itself)
 
 pub named_at : (os : List Occurrence) (k : ℕ) (d : Occurrence) → k < length os
     → (at os k).name ≡ name_of (get_or os k d)

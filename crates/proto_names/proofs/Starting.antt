@@ -1,23 +1,28 @@
 -- Hashes and their slots: where slots begin, and the slots of scopes as bits.
-use Rattle.proto_names.proofs.Common.{common_steps, ap, sym, fold, ◌∙◌, ◌%◌, ◌≡◌, ℕ, ◌+◌, ◌-◌, ◌*◌, ◌<◌, ◌≤◌, List, [], ◌∷◌, ◌++◌, length, take, get_or, append_assoc, arith, inl, inr, lit<, refl, IsTrue, replicate, is_lt, get_or-append_right, cases_lt, get_or-replicate, length-replicate, take_more, Contains-push_cases, ranks_by, sorted_far, le-div, Bits, HasInserted, columns_of, hash_of, hash_step, name_of, Occurrence, AreInHashOrder, name_cmp, is_scope, at, blank, TellsScopes, tells}
+use Rattle.proto_names.proofs.Common.{common_steps, ap, sym, fold, ◌∙◌, ◌%◌, ◌≡◌, ℕ, ◌+◌, ◌-◌, ◌*◌, ◌<◌, ◌≤◌, List, [], ◌∷◌, ◌++◌, length, take, get_or, append_assoc, arith, inl, inr, lit<, refl, IsTrue, replicate, is_lt, get_or-append_right, cases_lt, get_or-replicate, length-replicate, take_more, Contains-push_cases, ranks_by, sorted_far, le-div, Bits, HasInserted, columns_of, mod_below, hash_of, hash_step, rolling_hash, name_of, Occurrence, AreInHashOrder, name_cmp, is_scope, at, blank, TellsScopes, tells}
 use Rattle.std.proofs.Math.ListN.{get_or-append}
 use Rattle.std.proofs.Math.Nat.{add-mod-mod, div-lt_iff_lt-mul, div-mul-le_self, mod-add-mod, mul-le-mul_right, mul-lt-mul_of_pos_right, mul_assoc}
 use Rattle.std.proofs.lemmas.List.{length-append}
 use Rattle.std.proofs.lemmas.List.Folds.{fold_along}
 use Rattle.std.proofs.lemmas.List.Sums.{fold-append}
 use Rattle.std.proofs.lemmas.Nat.{mul-mod_first, mul-mod_second}
+use Rattle.proto_names.specs.Hashes.{spread}
 use Rattle.proto_names.specs.Starts.{AreStarts, BeginsSlot, slot_at, slot_of}
 use Rattle.proto_names.proofs.Ordered.{first_not, name_total, not_below}
 
 -- ---- hashes
 
-pub hash_below : (name : List ℕ) → hash_of name < 4294967296
-hash_below name =
+pub rolling_below : (name : List ℕ) → rolling_hash name < 4294967296
+rolling_below name =
     fold_along hash_step hash_step (λ hash other. hash < 4294967296) (λ b c x h. omega arith) 0 0 name (lit< tt)
 
--- the hash of a text is that of all but its last byte, and the byte
+pub hash_below : (name : List ℕ) → hash_of name < 4294967296
+unfolding spread
+hash_below name = mod_below (rolling_hash name * 2654435769) 4294967296 (lit< tt)
+
+-- the rolling hash of a text is that of all but its last byte, and the byte
 pub hash_end : (prefix bytes : List ℕ) (k d : ℕ) → k < length bytes
-    → hash_of (prefix ++ take (k + 1) bytes) ≡ hash_step (hash_of (prefix ++ take k bytes)) (get_or bytes k d)
+    → rolling_hash (prefix ++ take (k + 1) bytes) ≡ hash_step (rolling_hash (prefix ++ take k bytes)) (get_or bytes k d)
 hash_end prefix bytes k d within =
     rw (take_more bytes k d within, ← append_assoc prefix (take k bytes) (get_or bytes k d ∷ []))
     (fold-append hash_step 0 (prefix ++ take k bytes) (get_or bytes k d ∷ []))

@@ -1,8 +1,10 @@
 -- What a spelled name means, in the scopes around it: one thing, and the same among the same occurrences that are seen.
-use Rattle.proto_names.proofs.Common.{◌≡◌, ◌≢◌, ◌∙◌, sym, ℕ, suc, ◌+◌, ◌-◌, ◌<◌, List, [], ◌∷◌, ◌++◌, length, take, drop, get_or, ap, refl, arith, inl, inr, ◌⊎◌, add-one, append_assoc, ◌↔◌, Bool, Option, None, Some, MatchOption, IsTrue, Contains, common_steps, cases_order, get_or_at, get_or-drop, get_or_default, split_at, take-append_seam, take-append-add, take-length, IsCandidate, prefixes, scoped, Occurrence, is_type, is_scope, is_message, Visible, Decides, IsAbsolute, IsInnermost, Means, IsType, Resolves, ResolvesNowhere, message, enumeration, Contains-get_or, at, blank, HasNoType, HasOneIn, IsNoType, IsTypeAmong, fits}
+use Rattle.proto_names.proofs.Common.{◌≡◌, ◌≢◌, ◌∙◌, sym, ℕ, suc, ◌+◌, ◌-◌, ◌<◌, List, [], ◌∷◌, ◌++◌, length, take, drop, get_or, ap, refl, arith, inl, inr, ◌⊎◌, add-one, append_assoc, ◌↔◌, Bool, false, true≢false, Option, None, Some, MatchOption, IsTrue, Contains, common_steps, cases_order, get_or_at, get_or-drop, get_or_default, split_at, take-append_seam, take-append-add, take-length, IsCandidate, prefixes, scoped, Occurrence, is_type, is_scope, is_message, Visible, Decides, IsAbsolute, IsInnermost, Means, IsType, Resolves, ResolvesNowhere, message, enumeration, Contains-get_or, at, blank, HasNoType, HasOneIn, IsNoType, IsTypeAmong, fits}
 use Rattle.std.proofs.lemmas.List.{length-drop}
 use Rattle.proto_desc.specs.declared.name_kind.NameKind.{NameKind}
 use Rattle.proto_names.specs.SeenAlike.{AreSeenAlike}
+use Rattle.proto_names.specs.Steps.{before}
+use Rattle.std.specs.Prelude.{is_some}
 use Rattle.proto_names.specs.declared.visible.Role.{Role}
 use Rattle.proto_names.specs.declared.visible.Role.TheVariants as role
 
@@ -12,14 +14,26 @@ type_scope : (kind : Option NameKind) → IsTrue (is_type kind) → IsTrue (is_s
 type_scope kind is = grind (arith, common_steps)
 
 -- where a scope decides what a spelled name means, the first part of the name is a scope there
-pub first_visible : (os : List Occurrence) (Seen : ℕ → Type 0) (c spelled first : List ℕ) (dot : Option ℕ)
-    → MatchOption dot (first ≡ spelled) (λ k. first ≡ take k spelled)
+pub first_visible : (os : List Occurrence) (Seen : ℕ → Type 0) (c spelled : List ℕ) (dot : Option ℕ)
     → MatchOption dot (Visible os Seen is_type (scoped c spelled))
     (λ k. Visible os Seen is_scope (scoped c (take k spelled)))
-    → (o : Occurrence) × Contains os o × (o.name ≡ scoped c first) × IsTrue (is_scope o.kind)
-first_visible os Seen c spelled first None is (o, within, name, kind, seen) =
-    (o, within, rw is name, type_scope o.kind kind)
-first_visible os Seen c spelled first (Some k) is (o, within, name, kind, seen) = (o, within, rw is name, kind)
+    → (o : Occurrence) × Contains os o × (o.name ≡ scoped c (before dot spelled)) × IsTrue (is_scope o.kind)
+first_visible os Seen c spelled None (o, within, name, kind, seen) = (o, within, name, type_scope o.kind kind)
+first_visible os Seen c spelled (Some k) (o, within, name, kind, seen) = (o, within, name, kind)
+
+message_type : (kind : Option NameKind) → IsTrue (is_message kind) → IsTrue (is_type kind)
+message_type kind is = grind (arith, common_steps)
+
+-- where no dot is spelled, a scope decides by a type
+pub simple_decides : (os : List Occurrence) (Seen : ℕ → Type 0) (c spelled : List ℕ) (dot : Option ℕ) (what : NameKind)
+    → is_some dot ≡ false → IsType os Seen (scoped c (before dot spelled)) what
+    → MatchOption dot (Visible os Seen is_type (scoped c spelled))
+    (λ k. Visible os Seen is_scope (scoped c (take k spelled)))
+    × IsType os Seen (scoped c spelled) what
+simple_decides os Seen c spelled (Some k) what simple type = absurd (true≢false simple)
+simple_decides os Seen c spelled None what simple (message (o, within, name, kind, seen)) =
+    ((o, within, name, message_type o.kind kind, seen), message (o, within, name, kind, seen))
+simple_decides os Seen c spelled None what simple (enumeration is none) = (is, enumeration is none)
 
 -- ---- scopes
 
@@ -203,3 +217,11 @@ module _ (os : List Occurrence) (Seen : ℕ → Type 0) where
 pub no_type : (os : List Occurrence) (Seen : ℕ → Type 0) (name : List ℕ) → IsNoType os Seen name → (what : NameKind)
     → IsType os Seen name what → ⊥
 no_type os Seen name none what is = grind arith
+
+-- behind a leading dot stands a full name
+pub absolute_nowhere : (os : List Occurrence) (Seen : ℕ → Type 0) (scope spelled rest : List ℕ) → spelled ≡ 46 ∷ rest
+    → IsNoType os Seen rest → ResolvesNowhere os Seen scope spelled
+absolute_nowhere os Seen scope spelled rest is none full what r = elim r.means [
+  | inl e ↦ (let same : rest ≡ full = cc in no_type os Seen full (rw same at none) what r.type)
+  | inr w ↦ absurd (w.0 rest is)
+]

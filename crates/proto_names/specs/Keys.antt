@@ -2,11 +2,10 @@
 -- hash, below it the number of a part, and below that an index in it.
 use Rattle.std.specs.Prelude.{◌≡◌, ℕ, ◌/◌, ◌%◌, ◌<◌, List, [], All, length, map, slice_index_or}
 use Rattle.std.specs.declared.cmp.Ordering.{Ordering}
-use Rattle.std.specs.Cmp.Lexicographic.{slice_cmp}
 use Rattle.std.specs.Ordering.{nat_cmp, ordering_then}
 use Rattle.proto_names.specs.Hashes.{hash_of}
 use Rattle.proto_names.specs.Occurrences.{Occurrence}
-use Rattle.proto_names.specs.Order.{place_cmp}
+use Rattle.proto_names.specs.Order.{end_cmp, place_cmp}
 use Rattle.proto_names.specs.Runs.{at}
 
 abbrev pub index_in : ℕ → ℕ
@@ -46,5 +45,5 @@ pub record AreKeysOf (os : List Occurrence) (parts : List (List Occurrence)) (ke
 abbrev pub key_cmp : List (List Occurrence) → ℕ → ℕ → Ordering
 key_cmp parts a b =
     ordering_then (nat_cmp (hash_in a) (hash_in b))
-    (ordering_then (slice_cmp nat_cmp (at_key parts a).name (at_key parts b).name)
+    (ordering_then (end_cmp (at_key parts a).name (at_key parts b).name)
     (place_cmp (at_key parts a) (at_key parts b)))

@@ -4,6 +4,7 @@ pub mod Entries
 pub mod Hashes
 pub mod Index
 pub mod Keys
+pub mod ScopeBefore
 pub mod Occurrences
 pub mod Order
 pub mod Packages

@@ -1,5 +1,5 @@
 -- Occurrences in the order in which an index keeps them: by the hashes of their names, then by name, file and place.
-use Rattle.std.specs.Prelude.{◌≡◌, ◌⊎◌, ℕ, ◌<◌, ◌≤◌, List, Option, Some, IsSomeAnd, IsSorted, IsSortedByKey}
+use Rattle.std.specs.Prelude.{◌≡◌, ◌⊎◌, ℕ, ◌<◌, ◌≤◌, List, reverse, Option, Some, IsSomeAnd, IsSorted, IsSortedByKey}
 use Rattle.std.specs.declared.cmp.Ordering.{Ordering}
 use Rattle.std.specs.Cmp.Lexicographic.{slice_cmp}
 use Rattle.std.specs.Ordering.{nat_cmp, ordering_then}
@@ -8,9 +8,13 @@ use Rattle.proto_names.specs.Index.{name_of}
 use Rattle.proto_names.specs.Occurrences.{Occurrence}
 use Rattle.proto_names.specs.declared.entry.Location.{Location}
 
+-- byte by byte, from the ends of the names on
+unfoldable pub end_cmp : List ℕ → List ℕ → Ordering
+end_cmp a b = slice_cmp nat_cmp (reverse a) (reverse b)
+
 -- most names differ in their hashes, so that few are compared byte by byte
 abbrev pub name_cmp : List ℕ → List ℕ → Ordering
-name_cmp a b = ordering_then (nat_cmp (hash_of a) (hash_of b)) (slice_cmp nat_cmp a b)
+name_cmp a b = ordering_then (nat_cmp (hash_of a) (hash_of b)) (end_cmp a b)
 
 -- by the hashes of their names, then by name
 abbrev pub AreInHashOrder : List Occurrence → Type 0

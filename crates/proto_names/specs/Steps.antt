@@ -1,6 +1,6 @@
 -- Words of private contracts: the steps of a resolution.
 use Rattle.std.specs.List.{position}
-use Rattle.std.specs.Prelude.{◌≡◌, ◌⊎◌, ℕ, ◌<◌, List, length, take, Bool, Option, IsTrue, MatchOption}
+use Rattle.std.specs.Prelude.{◌≡◌, ◌⊎◌, ℕ, ◌<◌, List, length, take, Bool, Option, None, Some, is_some, IsTrue}
 use Rattle.proto_desc.specs.DeclaredNames.{scoped}
 use Rattle.proto_desc.specs.declared.name_kind.NameKind.{NameKind}
 use Rattle.proto_desc.specs.declared.name_kind.NameKind.TheVariants as kind
@@ -37,9 +37,17 @@ IsTypeAmong os In what = (HasOneIn os is_message In × (what ≡ kind.Message))
 abbrev pub IsNoType : List Occurrence → (ℕ → Type 0) → List ℕ → Type 0
 IsNoType os Seen full = (Visible os Seen is_message full → ⊥) × (Visible os Seen is_type full → ⊥)
 
+-- what stands before a place, or all where there is none
+abbrev pub before : Option ℕ → List ℕ → List ℕ
+before None spelled = spelled
+before (Some k) spelled = take k spelled
+
 -- the first part of a spelled name: all before its first dot, or all of it
-abbrev pub IsFirstPart : List ℕ → List ℕ → Type 0
-IsFirstPart spelled first = MatchOption (position is_dot spelled) (first ≡ spelled) (λ k. first ≡ take k spelled)
+abbrev pub first_part : List ℕ → List ℕ
+first_part spelled = before (position is_dot spelled) spelled
+
+abbrev pub has_dot : List ℕ → Bool
+has_dot spelled = is_some (position is_dot spelled)
 
 -- what a scope decides of a spelled name: that it is a type of a kind there, or only that it decides
 abbrev pub IsDecision : List Occurrence → (ℕ → Type 0) → List ℕ → List ℕ → Decision → Type 0

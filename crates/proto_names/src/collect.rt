@@ -3,15 +3,12 @@
 ghost use Rattle.std.specs.Prelude.{◌≡◌, ℕ, ◌+◌, ◌<◌, ◌^◌, ◌++◌, List, map, flat_map, length, IfOk, OnOk};
 ghost use Rattle.proto_desc.specs.declared.file.FileDesc.{FileDesc};
 ghost use Rattle.proto_names.specs.Collected.{IsCollected};
-ghost use Rattle.proto_desc.specs.DeclaredNames.{declared_by_enum, declared_by_message, declared_by_service, declared_in};
-ghost use Rattle.proto_names.specs.Occurrences.{declared_occurrence, package_occurrence, package_occurrences, occurrences_of};
-ghost use Rattle.proto_names.specs.Scopes.{prefixes};
+ghost use Rattle.proto_names.specs.Entries.{IsScopeAmong, scope_name};
+ghost use Rattle.proto_desc.specs.DeclaredNames.{declared_by_enum, declared_by_message, declared_by_service, declared_in, file_scope};
+ghost use Rattle.proto_names.specs.Occurrences.{declared_occurrence, package_occurrences, occurrences_of};
 
 use crate::entries::Entries;
 use crate::entry::Location;
-use crate::full_name::name_in;
-use crate::scope::{Scope, shorter_prefix};
-use proto_base::Place;
 use proto_desc::enumeration::EnumDesc;
 use proto_desc::file::{FileDesc, PackageDescriptor};
 use proto_desc::message::MessageDesc;
@@ -21,15 +18,16 @@ use proto_desc::{DeclaredName, Declares};
 use proto_links::FileId;
 use std::alloc::{AllocError, Global};
 
-/// Puts elements that declare their own names alone.
+/// Puts elements that declare their own names alone, in the scope whose entry stands at a position; without one, in no scope.
 fn put_members<D: Declares>(
     entries: &mut Entries,
     file: FileId,
-    scope: Scope,
+    scope: Option<usize>,
     members: &[D],
 ) -> Result<(), AllocError>
-    ensures { OnOk result (entries.new ≡ entries.old
-        ++ map (declared_occurrence file) (map (D.declared scope.entry.text.now) members.now)) }
+    requires { IsScopeAmong entries.old scope }
+    ensures { OnOk result (entries.new ≡ entries.old ++ map (declared_occurrence file)
+        (map (D.declared (scope_name entries.old scope)) members.now)) }
 {
     for member in members {
         let DeclaredName { name, place, kind } = member.declared_name();
@@ -42,36 +40,37 @@ fn put_members<D: Declares>(
 trait Collect {
     ghost use Rattle.std.specs.Prelude.{◌≡◌, ◌++◌, ℕ, List, OnOk, map};
     ghost use Rattle.proto_desc.specs.DeclaredNames.{Declared};
+    ghost use Rattle.proto_names.specs.Entries.{IsScopeAmong, scope_name};
     ghost use Rattle.proto_names.specs.Occurrences.{declared_occurrence};
 
     /// These names, in a scope.
     ghost declares: { List ℕ → Self → List Declared };
 
-    /// Puts these names behind the others.
+    /// Puts these names behind the others, in the scope whose entry stands at a position; without one, in no scope.
     fn put(
         &self,
-        alloc: Global,
         entries: &mut Entries,
         file: FileId,
-        scope: Scope,
+        scope: Option<usize>,
     ) -> Result<(), AllocError>
+        requires { IsScopeAmong entries.old scope }
         ensures { OnOk result (entries.new ≡ entries.old
-            ++ map (declared_occurrence file) (declares scope.entry.text.now self.now)) };
+            ++ map (declared_occurrence file) (declares (scope_name entries.old scope) self.now)) };
 }
 
 /// Puts what elements declare, one after the other.
 fn put_each<C: Collect>(
-    alloc: Global,
     entries: &mut Entries,
     file: FileId,
-    scope: Scope,
+    scope: Option<usize>,
     elements: &[C],
 ) -> Result<(), AllocError>
-    ensures { OnOk result (entries.new ≡ entries.old
-        ++ map (declared_occurrence file) (flat_map (C.declares scope.entry.text.now) elements.now)) }
+    requires { IsScopeAmong entries.old scope }
+    ensures { OnOk result (entries.new ≡ entries.old ++ map (declared_occurrence file)
+        (flat_map (C.declares (scope_name entries.old scope)) elements.now)) }
 {
     for element in elements {
-        element.put(alloc, entries, file, scope)?;
+        element.put(entries, file, scope)?;
     }
     Ok(())
 }
@@ -82,10 +81,9 @@ impl Collect for EnumDesc<'_> {
 
     fn put(
         &self,
-        _alloc: Global,
         entries: &mut Entries,
         file: FileId,
-        scope: Scope,
+        scope: Option<usize>,
     ) -> Result<(), AllocError> {
         let place = self.place;
         let location = Location { file, place };
@@ -100,51 +98,41 @@ impl Collect for ServiceDesc<'_> {
 
     fn put(
         &self,
-        alloc: Global,
         entries: &mut Entries,
         file: FileId,
-        scope: Scope,
+        scope: Option<usize>,
     ) -> Result<(), AllocError> {
-        let name = self.name.as_str();
         let place = self.place;
-        entries.push(
-            scope,
-            name,
-            Location { file, place },
-            Some(NameKind::Service),
-        )?;
-        let full = name_in(alloc, scope.text, name)?;
-        let inside = Scope::new(full.as_str());
+        let location = Location { file, place };
+        let inside = entries.push(scope, self.name.as_str(), location, Some(NameKind::Service))?;
         put_members(entries, file, inside, self.methods.as_slice())
     }
 }
 
 /// Puts a message and all that stands in it.
 fn put_message(
-    alloc: Global,
     entries: &mut Entries,
     file: FileId,
-    scope: Scope,
+    scope: Option<usize>,
     message: &MessageDesc,
 ) -> Result<(), AllocError>
-    ensures { OnOk result (entries.new ≡ entries.old
-        ++ map (declared_occurrence file) (declared_by_message message.now scope.entry.text.now)) }
+    requires { IsScopeAmong entries.old scope }
+    ensures { OnOk result (entries.new ≡ entries.old ++ map (declared_occurrence file)
+        (declared_by_message message.now (scope_name entries.old scope))) }
 {
-    let name = message.name.as_str();
     let place = message.place;
-    entries.push(
+    let location = Location { file, place };
+    let inside = entries.push(
         scope,
-        name,
-        Location { file, place },
+        message.name.as_str(),
+        location,
         Some(NameKind::Message),
     )?;
-    let full = name_in(alloc, scope.text, name)?;
-    let inside = Scope::new(full.as_str());
     put_members(entries, file, inside, message.fields.as_slice())?;
     put_members(entries, file, inside, message.oneofs.as_slice())?;
-    put_each(alloc, entries, file, inside, message.enums.as_slice())?;
+    put_each(entries, file, inside, message.enums.as_slice())?;
     for nested in message.nested.as_slice() {
-        put_message(alloc, entries, file, inside, nested)?;
+        put_message(entries, file, inside, nested)?;
     }
     Ok(())
 }
@@ -154,74 +142,52 @@ impl Collect for MessageDesc<'_> {
 
     fn put(
         &self,
-        alloc: Global,
         entries: &mut Entries,
         file: FileId,
-        scope: Scope,
+        scope: Option<usize>,
     ) -> Result<(), AllocError> {
-        put_message(alloc, entries, file, scope, self)
+        put_message(entries, file, scope, self)
     }
 }
 
-/// Puts a package's name and its prefixes, from the longest on.
-fn put_prefixes(
-    entries: &mut Entries,
-    file: FileId,
-    place: Place,
-    name: &str,
-) -> Result<(), AllocError>
-    ensures { OnOk result (entries.new ≡ entries.old
-        ++ map (package_occurrence file place) (prefixes name.now)) }
-{
-    let mut prefix = name;
-    loop {
-        entries.push(Scope::top(), prefix, Location { file, place }, None)?;
-        match shorter_prefix(prefix) {
-            Some(shorter) => prefix = shorter,
-            None => return Ok(()),
-        }
-    }
-}
-
+/// Puts a file's package, which is the scope of what the file declares.
 fn put_package(
     entries: &mut Entries,
     file: FileId,
     package: &Option<PackageDescriptor>,
-) -> Result<(), AllocError>
-    ensures { OnOk result (entries.new ≡ entries.old ++ package_occurrences file «package».now) }
+) -> Result<Option<usize>, AllocError>
+    ensures put { OnOk result (entries.new ≡ entries.old ++ package_occurrences file «package».now) }
+    ensures scope { IfOk result (IsScopeAmong entries.new) }
+    ensures named { IfOk result (λ scope. scope_name entries.new scope ≡ file_scope «package».now) }
 {
-    match package {
-        Some(package) => put_prefixes(entries, file, package.place, package.name.as_str()),
-        None => Ok(()),
-    }
+    let Some(package) = package else {
+        return Ok(None);
+    };
+    let place = package.place;
+    entries.push_package(package.name.as_str(), Location { file, place })
 }
 
 /// Puts what a file declares, but for its package.
 fn put_declared(
-    alloc: Global,
     entries: &mut Entries,
     file: FileId,
-    scope: Scope,
+    scope: Option<usize>,
     desc: &FileDesc,
 ) -> Result<(), AllocError>
-    ensures { OnOk result (entries.new ≡ entries.old
-        ++ map (declared_occurrence file) (declared_in scope.entry.text.now desc.now)) }
+    requires { IsScopeAmong entries.old scope }
+    ensures { OnOk result (entries.new ≡ entries.old ++ map (declared_occurrence file)
+        (declared_in (scope_name entries.old scope) desc.now)) }
 {
-    put_each(alloc, entries, file, scope, desc.messages.as_slice())?;
-    put_each(alloc, entries, file, scope, desc.enums.as_slice())?;
-    put_each(alloc, entries, file, scope, desc.services.as_slice())
+    put_each(entries, file, scope, desc.messages.as_slice())?;
+    put_each(entries, file, scope, desc.enums.as_slice())?;
+    put_each(entries, file, scope, desc.services.as_slice())
 }
 
-fn put_file(
-    alloc: Global,
-    entries: &mut Entries,
-    file: FileId,
-    desc: &FileDesc,
-) -> Result<(), AllocError>
+fn put_file(entries: &mut Entries, file: FileId, desc: &FileDesc) -> Result<(), AllocError>
     ensures { OnOk result (entries.new ≡ entries.old ++ occurrences_of file desc.now) }
 {
-    put_package(entries, file, &desc.package)?;
-    put_declared(alloc, entries, file, Scope::new(desc.scope()), desc)
+    let scope = put_package(entries, file, &desc.package)?;
+    put_declared(entries, file, scope, desc)
 }
 
 /// The occurrences in files, the first of which has this position, or none where they are more than the limit. They are
@@ -237,7 +203,7 @@ pub(crate) fn collect_files(
 {
     let mut entries = Entries::new(alloc);
     for (k, desc) in files.iter().enumerate() {
-        put_file(alloc, &mut entries, first + k, desc)?;
+        put_file(&mut entries, first + k, desc)?;
         if entries.len() as u64 > limit {
             return Ok(None);
         }

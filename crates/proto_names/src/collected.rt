@@ -1,12 +1,13 @@
 //! The entries of an index, where they were collected: part by part, and none is moved.
 
-ghost use Rattle.std.specs.Prelude.{◌≡◌, ◌<◌, ◌∷◌, [], IfOk, length, slice_index_or, string_bytes};
-ghost use Rattle.proto_names.specs.Keys.{at_key, index_in, part_at, part_in};
+ghost use Rattle.std.specs.Prelude.{◌≡◌, ◌∷◌, [], IfOk, IsUtf8};
+ghost use Rattle.proto_names.specs.Keys.{at_key, index_in, part_in};
 ghost use Rattle.proto_names.specs.Order.{location_of};
 
 use crate::entries::Entries;
 use crate::entry::{FIRST_LOCATION, Location};
 use crate::keys::{index_in, part_in};
+use crate::name_bytes::NameBytes;
 use proto_desc::name_kind::NameKind;
 use std::alloc::{AllocError, Global};
 use std::marker::Model;
@@ -37,22 +38,14 @@ impl Collected {
     }
 
     /// The bytes of the name that a key finds, none where it finds no entry.
-    pub(crate) fn name(&self, key: u64) -> &[u8]
-        ensures { result.now ≡ (at_key self.now key).name }
+    pub(crate) fn bytes(&self, key: u64) -> NameBytes<'_>
+        ensures name { result ≡ (at_key self.now key).name }
+        ensures text { IsUtf8 result }
     {
-        match self.parts.get(part_in(key)) {
-            Some(entries) => entries.name(index_in(key)),
-            None => &[],
-        }
-    }
-
-    /// The name that a key finds, as a text of its own.
-    pub(crate) fn to_text(&self, alloc: Global, key: u64) -> Result<String, AllocError>
-        requires part { part_in key < length self.now }
-        requires index { index_in key < length (part_at self.now (part_in key)) }
-        ensures { IfOk result (λ text. string_bytes text ≡ (at_key self.now key).name) }
-    {
-        self.parts[part_in(key)].to_text(alloc, index_in(key))
+        let Some(entries) = self.parts.get(part_in(key)) else {
+            return NameBytes::empty();
+        };
+        entries.bytes(index_in(key))
     }
 
     /// Where the name that a key finds stands; at the first byte of the first file where it finds no entry.

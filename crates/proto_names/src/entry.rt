@@ -1,7 +1,7 @@
 //! An entry of an index: a full name in a file.
 
 ghost use Rattle.std.specs.Prelude.{◌≡◌};
-ghost use Rattle.proto_names.specs.Entries.{name_at};
+ghost use Rattle.proto_names.specs.Entries.{own_name};
 
 use proto_base::Place;
 use proto_desc::name_kind::NameKind;
@@ -20,25 +20,28 @@ pub(crate) const FIRST_LOCATION: Location = Location {
     place: Place { offset: 0 },
 };
 
-/// A full name in a file, by where it stands in the text of all names.
+/// A full name in a file: a name of its own, in the scope that an entry before it names. So the name of a scope is kept once
+/// for all that stands in it.
 #[derive(Clone, Copy)]
 pub(crate) struct Entry {
-    /// Where the name starts, in bytes.
+    /// Where the own name starts in the text of all own names, in bytes.
     pub(crate) start: usize,
-    /// How many bytes the name has.
+    /// How many bytes the own name has.
     pub(crate) len: usize,
+    /// The position of the scope's entry; where none stands there before this one, there is no scope.
+    pub(crate) scope: usize,
     pub(crate) location: Location,
-    /// The hash of the name.
-    pub(crate) hash: u32,
+    /// The rolling hash of the full name.
+    pub(crate) rolling: u32,
     /// What the name is declared for; none where it is a package.
     pub(crate) kind: Option<NameKind>,
 }
 
 impl Entry {
-    /// The bytes of the name, in the text of all names. They end where the text does, so that a sort can compare any two
-    /// entries.
-    pub(crate) fn name<'t>(&self, text: &'t [u8]) -> &'t [u8]
-        ensures { result.now ≡ name_at text.now self.now }
+    /// The bytes of the own name, in the text of all own names. They end where the text does, so that a sort can compare any
+    /// two entries.
+    pub(crate) fn own_name<'t>(&self, text: &'t [u8]) -> &'t [u8]
+        ensures { result.now ≡ own_name text.now self.now }
     {
         let behind = &text[self.start.min(text.len())..];
         &behind[..self.len.min(behind.len())]

@@ -15,6 +15,7 @@ ghost use Rattle.proto_base.specs.declared.limits.Limit.TheVariants as limit;
 ghost use Rattle.proto_base.specs.declared.place.Place.{Place};
 
 use crate::entry::Location;
+use crate::hashing::HashedName;
 use crate::scope::Scope;
 use crate::shares::sorted_shares;
 use crate::sorted::SortedShare;
@@ -185,7 +186,10 @@ impl NameIndex {
             × (o.kind ≡ Some d.kind) × (o.file ≡ d.file) }
         ensures within { IfSome result (λ d. d.file < self.now.files) }
     {
-        let names = self.entries.named(Scope::top(), name).names;
+        let names = self
+            .entries
+            .named(Scope::top(), HashedName::new(name))
+            .names;
         for position in 0..names.len() {
             if let Some(kind) = names.kind(position) {
                 let file = names.location(position).file;

@@ -6,6 +6,7 @@ ghost use Rattle.proto_names.specs.Keys.{AreKeysOf, hash_in, index_in, key_cmp, 
 ghost use Rattle.proto_names.specs.Shares.{all_of, share_of};
 
 use crate::collected::Collected;
+use crate::name_bytes::compare_names;
 use crate::share::Share;
 use std::alloc::{AllocError, Global};
 use std::cmp::Ordering;
@@ -100,7 +101,7 @@ fn compare_keys(collected: &Collected, first: u64, second: u64) -> Ordering
 {
     match hash_in(first).cmp(&hash_in(second)) {
         Ordering::Equal => {
-            let names = collected.name(first).cmp(collected.name(second));
+            let names = compare_names(collected.bytes(first), collected.bytes(second));
             names.then(collected.location(first).cmp(&collected.location(second)))
         }
         unequal => unequal,

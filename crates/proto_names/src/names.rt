@@ -1,6 +1,6 @@
 //! The names of entries, with what they are declared for and where.
 
-ghost use Rattle.std.specs.Prelude.{◌≡◌, ◌↔◌, ◌<◌, ◌≤◌, length, take, drop, IfOk, IsTrue, string_bytes};
+ghost use Rattle.std.specs.Prelude.{◌≡◌, ◌↔◌, ◌<◌, ◌≤◌, length, take, drop, IsTrue, IsUtf8};
 ghost use Rattle.proto_desc.specs.DeclaredNames.{scoped};
 ghost use Rattle.proto_names.specs.Hashes.{hash_of};
 ghost use Rattle.proto_names.specs.Keys.{AreKeysAmong, found_by};
@@ -9,10 +9,9 @@ ghost use Rattle.proto_names.specs.Runs.{at};
 
 use crate::collected::Collected;
 use crate::entry::Location;
-use crate::full_name::is_name_in;
 use crate::keys::hash_in;
+use crate::name_bytes::{NameBytes, is_same_name};
 use proto_desc::name_kind::NameKind;
-use std::alloc::{AllocError, Global};
 use std::marker::Model;
 
 /// Entries that are found by keys, in the order of these. Contracts see them as the occurrences that they stand for.
@@ -60,21 +59,13 @@ impl<'e> Names<'e> {
     }
 
     /// The bytes of the name at a position.
-    pub(crate) fn name(&self, position: usize) -> &'e [u8]
+    pub(crate) fn bytes(&self, position: usize) -> NameBytes<'e>
         requires { position < length self.now }
-        ensures { result.now ≡ (at self.now position).name }
+        ensures name { result ≡ (at self.now position).name }
+        ensures text { IsUtf8 result }
     {
         let (collected, keys) = (self.collected, self.keys);
-        collected.name(keys[position])
-    }
-
-    /// The name at a position, as a text of its own.
-    pub(crate) fn to_text(&self, alloc: Global, position: usize) -> Result<String, AllocError>
-        requires { position < length self.now }
-        ensures { IfOk result (λ text. string_bytes text ≡ (at self.now position).name) }
-    {
-        let keys = self.keys;
-        self.collected.to_text(alloc, keys[position])
+        collected.bytes(keys[position])
     }
 
     /// What the name at a position is declared for; none where it is a package.
@@ -98,7 +89,7 @@ impl<'e> Names<'e> {
         requires { position < length self.now }
         ensures { IsTrue result ↔ ((at self.now position).name ≡ scoped scope.now name.now) }
     {
-        is_name_in(self.name(position), scope, name)
+        is_same_name(self.bytes(position), NameBytes::scoped(scope, name))
     }
 
     /// Whether the entries at two positions have one name, by their hashes first.
@@ -107,7 +98,7 @@ impl<'e> Names<'e> {
         requires second { second < length self.now }
         ensures { IsTrue result ↔ ((at self.now first).name ≡ (at self.now second).name) }
     {
-        self.hash(first) == self.hash(second) && self.name(first) == self.name(second)
+        self.hash(first) == self.hash(second) && is_same_name(self.bytes(first), self.bytes(second))
     }
 
     /// The entries behind so many.

@@ -9,7 +9,7 @@ ghost use Rattle.proto_names.specs.Occurrences.{Occurrence};
 ghost use Rattle.proto_names.specs.Resolution.{SeenBy, Decides, IsAbsolute, IsInnermost, IsType, Resolves, ResolvesNowhere, Visible};
 ghost use Rattle.proto_names.specs.SeenAlike.{AreSeenAlike, IsSeen};
 ghost use Rattle.proto_names.specs.Scopes.{IsCandidate};
-ghost use Rattle.proto_names.specs.Steps.{IsDecision, IsFirstPart, IsNoType, fits};
+ghost use Rattle.proto_names.specs.Steps.{IsDecision, IsNoType, first_part, fits, has_dot};
 ghost use Rattle.proto_names.specs.declared.resolve.ResolveError.TheVariants as errors;
 ghost use Rattle.proto_names.specs.declared.resolve.Want.TheVariants as wants;
 
@@ -87,45 +87,75 @@ impl From<AllocError> for ResolveError {
     }
 }
 
-/// The first part of a spelled name: what stands before its first dot, or all of it.
-fn first_part(spelled: &str) -> &str
-    ensures { IsFirstPart spelled.now result.now }
-{
-    match spelled.split_once('.') {
-        Some((first, _)) => first,
-        None => spelled,
+/// A spelled name without a leading dot, taken apart once for all scopes in which it is looked up.
+#[derive(Clone, Copy)]
+struct SpelledName<'n> {
+    text: &'n str,
+    /// What stands before the first dot, or all of it.
+    first: HashedName<'n>,
+    /// Whether more than the first part is spelled.
+    is_compound: bool,
+    ghost parted: { first.text.now ≡ first_part text.now },
+    ghost compound: { is_compound ≡ has_dot text.now },
+}
+
+impl<'n> SpelledName<'n> {
+    fn new(text: &'n str) -> SpelledName<'n>
+        ensures { result.text.now ≡ text.entry.now }
+    {
+        let (first, is_compound) = match text.split_once('.') {
+            Some((first, _)) => (first, true),
+            None => (text, false),
+        };
+        SpelledName {
+            text,
+            first: HashedName::new(first),
+            is_compound,
+        }
     }
 }
 
 impl NameIndex {
     /// Whether a file sees the name in a scope, of a kind that fits.
-    fn is_visible(&self, links: &Links, file: FileId, role: Role, scope: Scope, name: &str) -> bool
+    fn is_visible(
+        &self,
+        links: &Links,
+        file: FileId,
+        role: Role,
+        scope: Scope,
+        name: HashedName,
+    ) -> bool
         requires links { count_of links.now ≡ self.now.files }
         requires file { file < self.now.files }
         ensures { IsTrue result ↔ Visible self.now.occurrences (SeenBy links.now file) (fits role)
-            (scoped scope.entry.text.now name.now) }
+            (scoped scope.entry.text.now name.entry.text.now) }
     {
         sees_one(links, file, role, &self.entries.named(scope, name))
     }
 
     /// The kind of the type of the name in a scope.
-    fn type_of(&self, links: &Links, file: FileId, scope: Scope, name: &str) -> Option<NameKind>
+    fn type_of(
+        &self,
+        links: &Links,
+        file: FileId,
+        scope: Scope,
+        name: HashedName,
+    ) -> Option<NameKind>
         requires links { count_of links.now ≡ self.now.files }
         requires file { file < self.now.files }
         ensures { MatchOption result (IsNoType self.now.occurrences (SeenBy links.now file)
-            (scoped scope.entry.text.now name.now)) (IsType self.now.occurrences
-            (SeenBy links.now file) (scoped scope.entry.text.now name.now)) }
+            (scoped scope.entry.text.now name.entry.text.now)) (IsType self.now.occurrences
+            (SeenBy links.now file) (scoped scope.entry.text.now name.entry.text.now)) }
     {
         type_among(links, file, &self.entries.named(scope, name))
     }
 
-    /// Whether a scope may decide what a spelled name with this first part means. Of most scopes a bit tells that they
-    /// don't.
-    fn may_decide(&self, scope: Scope, first: HashedName) -> bool
-        ensures { (seen : ℕ → Bool) (spelled : List ℕ) → IsFirstPart spelled first.entry.text.now
-            → Decides self.now.occurrences (IsSeen seen) scope.entry.text.now spelled → IsTrue result }
+    /// Whether a scope may decide what a spelled name means. Of most scopes a bit tells that they don't.
+    fn may_decide(&self, scope: Scope, spelled: SpelledName) -> bool
+        ensures { (seen : ℕ → Bool) → Decides self.now.occurrences (IsSeen seen)
+            scope.entry.text.now spelled.entry.text.now → IsTrue result }
     {
-        self.entries.may_be_scope(scope, first)
+        self.entries.may_be_scope(scope, spelled.first)
     }
 
     /// What a scope decides of a spelled name, if it does, by the entries of the names there.
@@ -134,46 +164,41 @@ impl NameIndex {
         links: &Links,
         file: FileId,
         scope: Scope,
-        spelled: &str,
+        spelled: SpelledName,
     ) -> Option<Decision>
         requires links { count_of links.now ≡ self.now.files }
         requires file { file < self.now.files }
         ensures { MatchOption result (Decides self.now.occurrences (SeenBy links.now file)
-            scope.entry.text.now spelled.now → ⊥)
-            (IsDecision self.now.occurrences (SeenBy links.now file) scope.entry.text.now spelled.now) }
+            scope.entry.text.now spelled.entry.text.now → ⊥)
+            (IsDecision self.now.occurrences (SeenBy links.now file) scope.entry.text.now
+            spelled.entry.text.now) }
     {
-        match spelled.split_once('.') {
-            Some((first, _)) => {
-                if self.is_visible(links, file, Role::Scope, scope, first) {
-                    Some(Decision::Scope)
-                } else {
-                    None
-                }
-            }
-            None => match self.type_of(links, file, scope, spelled) {
-                Some(kind) => Some(Decision::Known(kind)),
-                None => None,
-            },
+        if !spelled.is_compound {
+            let kind = self.type_of(links, file, scope, spelled.first)?;
+            Some(Decision::Known(kind))
+        } else if self.is_visible(links, file, Role::Scope, scope, spelled.first) {
+            Some(Decision::Scope)
+        } else {
+            None
         }
     }
 
-    /// What a scope decides of a spelled name with this first part, if it does.
+    /// What a scope decides of a spelled name, if it does.
     fn decision(
         &self,
         links: &Links,
         file: FileId,
         scope: Scope,
-        spelled: &str,
-        first: HashedName,
+        spelled: SpelledName,
     ) -> Option<Decision>
         requires links { count_of links.now ≡ self.now.files }
         requires file { file < self.now.files }
-        requires first { IsFirstPart spelled.now first.text.now }
         ensures { MatchOption result (Decides self.now.occurrences (SeenBy links.now file)
-            scope.entry.text.now spelled.now → ⊥)
-            (IsDecision self.now.occurrences (SeenBy links.now file) scope.entry.text.now spelled.now) }
+            scope.entry.text.now spelled.entry.text.now → ⊥)
+            (IsDecision self.now.occurrences (SeenBy links.now file) scope.entry.text.now
+            spelled.entry.text.now) }
     {
-        if self.may_decide(scope, first) {
+        if self.may_decide(scope, spelled) {
             self.decision_by_entries(links, file, scope, spelled)
         } else {
             None
@@ -196,10 +221,10 @@ impl NameIndex {
             inner.0.text.now × IsDecision self.now.occurrences (SeenBy links.now file)
             inner.0.text.now spelled.now inner.1) }
     {
-        let first = HashedName::new(first_part(spelled));
+        let name = SpelledName::new(spelled);
         let mut inner = scope;
         loop {
-            if let Some(decision) = self.decision(links, file, inner, spelled, first) {
+            if let Some(decision) = self.decision(links, file, inner, name) {
                 return Some((inner, decision));
             }
             match inner.parent() {
@@ -227,7 +252,7 @@ impl NameIndex {
         let (inner, decision) = self.innermost(links, file, scope, spelled)?;
         let kind = match decision {
             Decision::Known(kind) => kind,
-            Decision::Scope => self.type_of(links, file, inner, spelled)?,
+            Decision::Scope => self.type_of(links, file, inner, HashedName::new(spelled))?,
         };
         Some(FoundType {
             scope: inner.text,
@@ -253,7 +278,7 @@ impl NameIndex {
     {
         match spelled.strip_prefix('.') {
             Some(full) => {
-                let kind = self.type_of(links, file, Scope::top(), full)?;
+                let kind = self.type_of(links, file, Scope::top(), HashedName::new(full))?;
                 Some(FoundType {
                     scope: "",
                     name: full,

@@ -1,18 +1,19 @@
 //! Scopes: texts of parts with dots between them.
 
 ghost use Rattle.std.specs.List.{fold};
-ghost use Rattle.std.specs.Prelude.{◌≡◌, ◌⊎◌, ℕ, ◌<◌, [], ◌∷◌, List, length, MatchOption};
+ghost use Rattle.std.specs.Prelude.{◌≡◌, ◌⊎◌, ℕ, ◌<◌, ◌++◌, [], ◌∷◌, List, drop, length, MatchOption};
 ghost use Rattle.proto_desc.specs.DeclaredNames.{scoped};
-ghost use Rattle.proto_names.specs.Hashes.{hash_of, hash_step};
+ghost use Rattle.proto_names.specs.Hashes.{hash_of, hash_step, rolling_hash};
 ghost use Rattle.proto_names.specs.Scopes.{IsCandidate, prefixes};
 
-use crate::hashing::{HashedName, hash_before, with_byte, with_text};
+use crate::hashing::{HashedName, hash_before, spread, with_byte, with_text};
 
 /// The longest prefix of a text that a dot follows, if there is a dot.
 pub(crate) fn shorter_prefix(text: &str) -> Option<&str>
     ensures { MatchOption result (prefixes text.now ≡ text.now ∷ [])
         (λ prefix. (prefixes text.now ≡ text.now ∷ prefixes prefix.now)
-        × (length prefix.now < length text.now)) }
+        × (length prefix.now < length text.now)
+        × (text.now ≡ prefix.now ++ drop (length prefix.now) text.now)) }
 {
     let dot = text.rfind('.')?;
     Some(&text[..dot])
@@ -33,14 +34,14 @@ fn parent(scope: &str) -> Option<&str>
     }
 }
 
-/// A scope. It keeps the hash of its full name, which is computed once for all names that are looked up in it (language
-/// guide, "Packages and Name Resolution").
+/// A scope. It keeps the rolling hash of its full name, which is computed once for all names that are looked up in it
+/// (language guide, "Packages and Name Resolution").
 #[derive(Clone, Copy)]
 pub struct Scope<'s> {
     /// The full name, empty for what stands in no package.
     pub text: &'s str,
-    hash: u32,
-    ghost hashed: { hash ≡ hash_of text.now },
+    rolling: u32,
+    ghost hashed: { rolling ≡ rolling_hash text.now },
 }
 
 impl<'s> Scope<'s> {
@@ -50,7 +51,7 @@ impl<'s> Scope<'s> {
     {
         Scope {
             text,
-            hash: with_text(0, text),
+            rolling: with_text(0, text),
         }
     }
 
@@ -61,30 +62,23 @@ impl<'s> Scope<'s> {
         Scope::new("")
     }
 
-    /// The hash of what stands before a name in the scope.
+    /// The rolling hash of what stands before a name in the scope.
     fn hash_before_name(self) -> u32
         ensures { (name : List ℕ) → fold hash_step result name
-            ≡ hash_of (scoped self.entry.text.now name) }
+            ≡ rolling_hash (scoped self.entry.text.now name) }
     {
         if self.text.is_empty() {
-            self.hash
+            self.rolling
         } else {
-            with_byte(self.hash, b'.')
+            with_byte(self.rolling, b'.')
         }
     }
 
-    /// The hash of the name in the scope.
-    pub(crate) fn hash_with(self, name: &str) -> u32
-        ensures { result ≡ hash_of (scoped self.entry.text.now name.now) }
-    {
-        with_text(self.hash_before_name(), name)
-    }
-
-    /// The hash of the name in the scope, by one product.
-    pub(crate) fn hash_of_name(self, name: HashedName) -> u32
+    /// The hash of the name in the scope, without a walk over its bytes.
+    pub(crate) fn hash_with(self, name: HashedName) -> u32
         ensures { result ≡ hash_of (scoped self.entry.text.now name.entry.text.now) }
     {
-        name.behind(self.hash_before_name())
+        spread(name.behind(self.hash_before_name()))
     }
 
     /// The scope around this one, whose hash comes out of this one's.
@@ -96,7 +90,7 @@ impl<'s> Scope<'s> {
             → (c ≡ self.entry.text.now) ⊎ IsCandidate c outer.text.now)) }
     {
         let text = parent(self.text)?;
-        let hash = hash_before(self.hash, &self.text.as_bytes()[text.len()..]);
-        Some(Scope { text, hash })
+        let rolling = hash_before(self.rolling, &self.text.as_bytes()[text.len()..]);
+        Some(Scope { text, rolling })
     }
 }

@@ -44,7 +44,7 @@ fn listed_services(
     let mut services = Vec::new(alloc);
     for position in 0..names.len() {
         if scopes.tells(names.hash(position)) && is_service(names.kind(position)) {
-            services.push(names.to_text(alloc, position)?)?;
+            services.push(names.bytes(position).to_text(alloc)?)?;
         }
     }
     Ok(services)

@@ -10,7 +10,6 @@ ghost use Rattle.proto_names.specs.Starts.{AreStarts, IsNowhere, IsStart, slot_o
 
 use crate::halving::start_by_halving;
 use crate::names::Names;
-use crate::scope::Scope;
 use std::alloc::{AllocError, Global};
 
 /// For each slot how many entries stand before it, and after the last one how many there are.
@@ -77,24 +76,24 @@ impl Starts {
     pub(crate) fn start_of(
         &self,
         names: &Names,
-        scope: Scope,
+        scope: &str,
         hash: u32,
         name: &str,
     ) -> Option<usize>
-        requires hash { hash ≡ hash_of (scoped scope.text.now name.now) }
+        requires hash { hash ≡ hash_of (scoped scope.now name.now) }
         requires order { AreInHashOrder names.now }
         requires starts { AreStarts names.now self.now.counts.items }
-        ensures { MatchOption result (IsNowhere names.now (scoped scope.entry.text.now name.now))
-            (IsStart names.now (scoped scope.entry.text.now name.now)) }
+        ensures { MatchOption result (IsNowhere names.now (scoped scope.now name.now))
+            (IsStart names.now (scoped scope.now name.now)) }
     {
         let slot = slot_of(self.counts.len() - 1, hash);
         let start = self.counts[slot] as usize;
         let end = self.counts[slot + 1] as usize;
         for position in start..end {
             if position - start >= MOST {
-                return start_by_halving(names, scope, name);
+                return start_by_halving(names, scope, hash, name);
             }
-            if is_match(names, position, hash, scope.text, name) {
+            if is_match(names, position, hash, scope, name) {
                 return Some(position);
             }
         }

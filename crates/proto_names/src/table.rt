@@ -17,7 +17,6 @@ use crate::halving::count_named;
 use crate::keyed_entries::KeyedEntries;
 use crate::names::Names;
 use crate::packages::{PackageFiles, Packages};
-use crate::scope::Scope;
 use crate::scope_hashes::ScopeHashes;
 use crate::starts::{Starts, starts_of};
 use std::alloc::{AllocError, Global};
@@ -90,12 +89,12 @@ impl EntryTable {
     }
 
     /// The entries of the name in a scope, which has this hash.
-    pub(crate) fn named(&self, scope: Scope, hash: u32, name: &str) -> NameEntries<'_>
-        requires hash { hash ≡ hash_of (scoped scope.text.now name.now) }
+    pub(crate) fn named(&self, scope: &str, hash: u32, name: &str) -> NameEntries<'_>
+        requires hash { hash ≡ hash_of (scoped scope.now name.now) }
         ensures found { (o : Occurrence) → Contains result.names o
-            → Contains self.now o × (o.name ≡ scoped scope.entry.text.now name.now) }
+            → Contains self.now o × (o.name ≡ scoped scope.now name.now) }
         ensures all { (o : Occurrence) → Contains self.now o
-            → o.name ≡ scoped scope.entry.text.now name.now → Contains result.names o }
+            → o.name ≡ scoped scope.now name.now → Contains result.names o }
         ensures files { IfSome result.files (λ p. IsPackageOf result.names p.files.now p.row) }
     {
         entries_named(
@@ -132,22 +131,22 @@ fn entries_named<'e>(
     names: &Names<'e>,
     starts: &Starts,
     packages: &'e Packages,
-    scope: Scope,
+    scope: &str,
     hash: u32,
     name: &str,
 ) -> NameEntries<'e>
-    requires hash { hash ≡ hash_of (scoped scope.text.now name.now) }
+    requires hash { hash ≡ hash_of (scoped scope.now name.now) }
     requires order { AreInOrder names.now }
     requires starts { AreStarts names.now starts.now.counts.items }
     requires packages { ArePackagesOf names.now packages.now.runs.items packages.now.files }
     ensures named { (o : Occurrence) → Contains result.names o
-        ↔ (Contains names.now o × (o.name ≡ scoped scope.entry.text.now name.now)) }
+        ↔ (Contains names.now o × (o.name ≡ scoped scope.now name.now)) }
     ensures files { IfSome result.files (λ p. IsPackageOf result.names p.files.now p.row) }
 {
     match starts.start_of(names, scope, hash, name) {
         Some(start) => {
             let behind = names.skip(start);
-            let names = behind.take(run_length(&behind, scope.text, name));
+            let names = behind.take(run_length(&behind, scope, name));
             let files = packages.files_of(start, names.len());
             NameEntries { names, files }
         }

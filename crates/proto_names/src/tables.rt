@@ -10,6 +10,7 @@ ghost use Rattle.proto_names.specs.Shares.{AreInShares, all_of};
 
 use crate::hashing::HashedName;
 use crate::scope::Scope;
+use crate::share::share_of_hash;
 use crate::table::{EntryTable, NameEntries};
 use std::marker::Model;
 
@@ -46,7 +47,7 @@ impl Tables {
         ensures all { (o : Occurrence) → Contains self.now o → hash_of o.name ≡ hash
             → Contains result.now o }
     {
-        &self.tables[hash as usize % self.tables.len()]
+        &self.tables[share_of_hash(hash, self.tables.len())]
     }
 
     /// Whether the name in a scope may be a scope's full name.
@@ -55,19 +56,19 @@ impl Tables {
             → o.name ≡ scoped scope.entry.text.now name.entry.text.now → IsTrue (is_scope o.kind)
             → IsTrue result }
     {
-        let hash = scope.hash_of_name(name);
+        let hash = scope.hash_with(name);
         self.with_hash(hash).may_be_scope(hash)
     }
 
     /// The entries of the name in a scope.
-    pub(crate) fn named(&self, scope: Scope, name: &str) -> NameEntries<'_>
+    pub(crate) fn named(&self, scope: Scope, name: HashedName) -> NameEntries<'_>
         ensures found { (o : Occurrence) → Contains result.names o
-            → Contains self.now o × (o.name ≡ scoped scope.entry.text.now name.now) }
+            → Contains self.now o × (o.name ≡ scoped scope.entry.text.now name.entry.text.now) }
         ensures all { (o : Occurrence) → Contains self.now o
-            → o.name ≡ scoped scope.entry.text.now name.now → Contains result.names o }
+            → o.name ≡ scoped scope.entry.text.now name.entry.text.now → Contains result.names o }
         ensures files { IfSome result.files (λ p. IsPackageOf result.names p.files.now p.row) }
     {
         let hash = scope.hash_with(name);
-        self.with_hash(hash).named(scope, hash, name)
+        self.with_hash(hash).named(scope.text, hash, name.text)
     }
 }

@@ -14,6 +14,7 @@ use Rattle.schema_failure.specs.declared.failure.ExitStatus.{ExitStatus}
 use Rattle.schema_failure.specs.declared.failure.ExitStatus.TheVariants as status
 use Rattle.schema_failure.specs.declared.failure.Verdict.{Verdict}
 use Rattle.schema_failure.specs.declared.failure.Verdict.TheVariants as verdict
+use Rattle.schema_serve.specs.Runs.{IsServeRun}
 
 -- a command that gives no verdict ended so, and where it came to its end the sources have no fault
 abbrev pub EndsSound : (Result (Unit {0}) Failure → Type 0) → Result Verdict Failure → Type 0
@@ -25,14 +26,14 @@ abbrev pub sound_of : Result (Unit {0}) Failure → Result Verdict Failure
 sound_of (Ok a) = Ok verdict.Sound
 sound_of (Err failure) = Err failure
 
--- what a task read and wrote, by how it ended. Of `serve`, which goes by sockets, nothing is known
+-- what a task read and wrote, by how it ended
 abbrev pub IsPerformed : Task → Reads → Reads → Writes → Writes → Result Verdict Failure → Type 0
 IsPerformed (task.Compile selection plan file) reads reads' writes writes' =
     EndsSound (λ done. IsCompileRun None file writes writes' done)
 IsPerformed (task.Check selection plan) reads reads' writes writes' =
     λ done. IsFolderCheck None selection.root.now writes writes' done
 IsPerformed (task.Serve selection listen plan mode connections) reads reads' writes writes' =
-    EndsSound (λ done. Unit {0})
+    EndsSound (λ done. IsServeRun None listen.now connections writes writes' done)
 IsPerformed (task.Answer selection plan mode) reads reads' writes writes' =
     EndsSound (λ done. IsAnswerRun None mode reads reads' writes writes' done)
 IsPerformed (task.Describe name) reads reads' writes writes' =

@@ -1,6 +1,8 @@
 //! What a run of `serve` does.
 
-ghost use Rattle.std.specs.Prelude.{◌-◌, ◌<◌, ◌^◌};
+ghost use Rattle.std.specs.Prelude.{◌≡◌, ◌-◌, ◌<◌, ◌^◌, IfErr, IfOk};
+ghost use Rattle.schema_failure.specs.declared.failure.Failure.TheVariants as failures;
+ghost use Rattle.schema_serve.specs.Runs.{IsAddress, IsServeRun};
 
 use grpcweb_core::{CountedWrite, Mode, write_bytes};
 use grpcweb_service::serve;
@@ -18,10 +20,12 @@ use std::time::Clock;
 use tokio::net::TcpListener;
 use tokio::runtime::Runtime;
 
-/// A runtime, and a listener at this address and port.
+/// A runtime, and a listener at this address and port; `Failure::Listen` where there is none.
 fn listen_at<R>(rt: &R, listen: &str) -> Result<(Runtime, TcpListener), Failure>
 where
     R: Wait + Threads + Clock + RandomSource + AllocGlobal + Sync + Clone + Drop + Net,
+    ensures asked { IfOk result (λ _. IsAddress listen.now) }
+    ensures failed { IfErr result (λ f. f ≡ failures.Listen) }
 {
     let address: SocketAddr = listen.parse().map_err(|_| Failure::Listen)?;
     let runtime = Runtime::new(rt).map_err(|_| Failure::Listen)?;
@@ -48,6 +52,8 @@ where
     F: SourceFolder + Sync,
     O: CountedWrite,
     requires { (O.writes output.old).failures < 2 ^ 64 - 1 }
+    ensures { IsServeRun (F.sources folder.now) listen.now connections (O.writes output.old)
+        (O.writes output.new) result }
 {
     let compiled = compile_folder(rt, folder, &Limits::standard(), plan)?;
     let shared = Arc::new(rt.alloc(), compiled)?;

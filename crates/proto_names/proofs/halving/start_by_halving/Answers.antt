@@ -5,7 +5,7 @@ use Rattle.proto_names.proofs.halving.start_by_halving.Goals.{else-start-len-via
 
 pub returns-else-start-len : goal.returns-else-start-len
 returns-else-start-len c =
-    nowhere_is c.args.names.now (scoped c.args.scope.text.now c.args.name.now) c.count_before-start.result c.requires
+    nowhere_is c.args.names.now (scoped c.args.scope.now c.args.name.now) c.count_before-start.result c.requires.order
     c.count_before-start.ensures.point
     (λ below same. elim c.else-start-len.branch [
       | else-start-len-via-then-start-len+else-has_name w ↦

@@ -1,6 +1,6 @@
 use Rattle.proto_names.proofs.Common.{common_steps, arith}
-use Rattle.proto_names.proofs.Starting.{hash_below, hash_end}
+use Rattle.proto_names.proofs.Starting.{rolling_below, hash_end}
 use Rattle.proto_names.proofs.hashing.hash_before.Goals as goal
 
 pub loop-end-preserved : goal.loop-end-preserved
-loop-end-preserved c = grind (arith, common_steps, hash_below, hash_end)
+loop-end-preserved c = grind (arith, common_steps, rolling_below, hash_end)

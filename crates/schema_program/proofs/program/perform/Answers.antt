@@ -1,6 +1,7 @@
 use Rattle.std.proofs.Common.{None}
 use Rattle.schema_commands.specs.Runs.{IsAnswerRun, IsCompileRun, IsDescribeRun}
 use Rattle.schema_program.proofs.Ending.{ends_sound}
+use Rattle.schema_serve.specs.Runs.{IsServeRun}
 use Rattle.schema_program.proofs.program.perform.Goals as goal
 
 pub returns-in-Compile : goal.returns-in-Compile
@@ -28,3 +29,11 @@ returns-in-Describe g c =
     (ends_sound (λ done. IsDescribeRun c.in-Describe.name.now (reads c.args.input.now) (reads c.run_describe.new.reader)
     (writes c.args.output.now) (writes c.run_describe.new.writer) done)
     c.run_describe.result c.sound-in-Describe.result c.sound-in-Describe.ensures c.run_describe.ensures)
+
+pub returns-in-Serve : goal.returns-in-Serve
+returns-in-Serve g c =
+    let writes = g.O.CountedWrite.writes in
+    rw c.in-Serve.is
+    (ends_sound (λ done. IsServeRun None c.in-Serve.listen.now c.in-Serve.connections (writes c.args.output.now)
+    (writes c.run_serve.new.output) done)
+    c.run_serve.result c.sound-in-Serve.result c.sound-in-Serve.ensures c.run_serve.ensures)

@@ -10,7 +10,7 @@ returns-in-Some-clause-found c d e =
     let same = same_Some _ d e in (
       o,
       subst (λ (index : Index). Contains index.occurrences o) c.self.view_is w.0,
-      rw c.top.ensures at w.1,
+      rw (c.top.ensures, c.new.ensures) at w.1,
       sym c.kind.ensures ∙ c.in-Some.is ∙ ap (λ (d : Defined). Some d.kind) same,
       ap (λ (s : Location). s.file) (sym c.location-file.ensures) ∙ ap (λ (d : Defined). d.file) same,
     )
@@ -19,7 +19,8 @@ pub returns-clause-none : goal.returns-clause-none
 returns-clause-none c e o within name =
     let named = c.named.result.names in
     let (k, inside, is) = c.named.ensures.all o
-    (subst (λ (index : Index). Contains index.occurrences o) (sym c.self.view_is) within) (rw c.top.ensures name) in
+    (subst (λ (index : Index). Contains index.occurrences o) (sym c.self.view_is) within)
+    (rw (c.top.ensures, c.new.ensures) name) in
     rw (get_or_default named k blank o inside ∙ is) at (c.loop-position.invariant k (omega (arith, inside)) inside)
 
 pub returns-in-Some-clause-within : goal.returns-in-Some-clause-within

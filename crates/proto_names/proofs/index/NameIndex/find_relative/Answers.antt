@@ -11,5 +11,5 @@ returns-in_err-inner c =
 pub returns-in_err-kind-in-Scope : goal.returns-in_err-kind-in-Scope
 returns-in_err-kind-in-Scope c =
     rw c.from_residual-in_err-kind-in-Scope.ensures
-    (λ full what r. no_type _ _ _ c.in_err-kind-in-Scope.ensures what
+    (λ full what r. no_type _ _ _ (rw c.new.ensures at c.in_err-kind-in-Scope.ensures) what
     (rw (only_innermost _ _ _ _ c.requires.relative _ full c.in_ok-inner.ensures.0 r.means) at r.type))

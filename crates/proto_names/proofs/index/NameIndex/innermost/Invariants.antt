@@ -5,7 +5,7 @@ abbrev pub invariant-loop-decision : goal.invariant-loop-decision
 invariant-loop-decision l = record {
   within : IsCandidate l.inner.text.now l.fn.scope.text.now;
   left : (c : List ℕ) → IsCandidate c l.fn.scope.text.now
-      → Decides l.self.occurrences (SeenBy l.links l.file) c l.spelled → IsCandidate c l.inner.text.now;
+      → Decides l.self.occurrences (SeenBy l.links l.file) c l.name.text.now → IsCandidate c l.inner.text.now;
 }
 
 abbrev pub decreases-loop-decision : goal.decreases-loop-decision

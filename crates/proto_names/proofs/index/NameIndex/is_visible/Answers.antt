@@ -11,7 +11,7 @@ sees_one-requires-clause-entries c k d below =
 pub returns : goal.returns
 returns c =
     let seen = SeenBy c.args.links.now c.args.file in
-    let name = scoped c.args.scope.text.now c.args.name.now in
+    let name = scoped c.args.scope.text.now c.args.name.text.now in
     let is = ap (λ (index : Index). index.occurrences) c.self.view_is in
     let accepts = fits c.args.role in (
       λ t. rw is at (among_visible c.self.inside.entries seen accepts name _ c.named.ensures.found

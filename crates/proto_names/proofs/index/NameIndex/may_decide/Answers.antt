@@ -4,8 +4,9 @@ use Rattle.proto_names.proofs.Unique.{first_visible}
 use Rattle.proto_names.proofs.index.NameIndex.may_decide.Goals as goal
 
 pub returns : goal.returns
-returns c seen spelled is decides =
-    let (o, within, name, scope) = first_visible c.args.self.now.occurrences (IsSeen seen) c.args.scope.text.now spelled
-    c.args.first.text.now _ is decides in
+returns c seen decides =
+    let (o, within, name, scope) = first_visible c.args.self.now.occurrences (IsSeen seen) c.args.scope.text.now
+    c.args.spelled.text.now _ decides in
     let same = ap (λ (index : Index). index.occurrences) c.self.view_is in
-    c.may_be_scope.ensures o (subst (λ (os : List Occurrence). Contains os o) (sym same) within) name scope
+    c.may_be_scope.ensures o (subst (λ (os : List Occurrence). Contains os o) (sym same) within)
+    (rw c.args.spelled.parted name) scope

@@ -11,5 +11,5 @@ type_among-requires-clause-entries c k d below =
 pub returns : goal.returns
 returns c = rw (ap (λ (index : Index). index.occurrences) c.self.view_is)
     at (type_visible c.self.inside.entries (SeenBy c.args.links.now c.args.file)
-    (scoped c.args.scope.text.now c.args.name.now) _ c.named.ensures.found c.named.ensures.all _
+    (scoped c.args.scope.text.now c.args.name.text.now) _ c.named.ensures.found c.named.ensures.all _
     c.type_among.ensures)
