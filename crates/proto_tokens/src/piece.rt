@@ -19,6 +19,7 @@ use crate::quoted::string;
 use crate::token::{TokenError, TokenKind, fault_at};
 use memchr::memmem;
 use proto_base::Kind;
+use proto_base::boxed::Boxed;
 use std::alloc::Global;
 
 /// The number at the front, and how many bytes it takes.
@@ -103,11 +104,13 @@ pub(crate) fn piece_at<'s>(
     }
     if is_quote(first) {
         let (value, len) = string(alloc, source, at)?;
+        let value = Boxed::new(alloc, value)?;
         return Ok((Some(TokenKind::StringLiteral(value)), len));
     }
     if is_punctuation(first) {
         return match comment_or_punctuation(rest) {
-            Ok((mark, len)) => Ok((mark.map(|mark| TokenKind::Punctuation(mark)), len)),
+            Ok((Some(mark), len)) => Ok((Some(TokenKind::Punctuation(mark)), len)),
+            Ok((None, len)) => Ok((None, len)),
             Err(kind) => Err(fault_at(at, kind)),
         };
     }

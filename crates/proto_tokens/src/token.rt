@@ -3,6 +3,7 @@
 ghost use Rattle.std.specs.Prelude.{◌≡◌, ◌<◌, ◌^◌};
 ghost use Rattle.proto_tokens.specs.declared.token.TokenError.TheVariants as errors;
 
+use proto_base::boxed::Boxed;
 use proto_base::{Kind, Place, Span};
 use std::alloc::{AllocError, AllocFailed};
 use std::borrow::CowStr;
@@ -29,8 +30,9 @@ pub enum TokenKind<'s> {
     Identifier(&'s str),
     /// An integer literal, decimal, octal or hexadecimal, by its value.
     Number(u64),
-    /// A string literal, by its value, which borrows the source where no escape stands in it.
-    StringLiteral(CowStr<'s>),
+    /// A string literal, by its value, which borrows the source where no escape stands in it. It stands behind a pointer, so
+    /// that all other tokens take less memory.
+    StringLiteral(Boxed<CowStr<'s>>),
     /// Any other visible ASCII character.
     Punctuation(char),
 }

@@ -49,7 +49,7 @@ fn is_token(token: &Token, start: u32, end: u32, text: &str) -> bool {
     let says = match &token.kind {
         TokenKind::Identifier(name) => *name == text,
         TokenKind::Number(number) => text.parse() == Ok(*number),
-        TokenKind::StringLiteral(value) => value.as_str() == text,
+        TokenKind::StringLiteral(value) => value.get().as_str() == text,
         TokenKind::Punctuation(mark) => text.starts_with(*mark),
     };
     says && token.span.start.offset == start && token.span.end.offset == end

@@ -261,7 +261,7 @@ impl<'s> Parse<'s> for StringLiteral<'s> {
         if let [token, rest @ ..] = parser.rest
             && let TokenKind::StringLiteral(value) = &token.kind
         {
-            let value = text_of(value)?;
+            let value = text_of(value.get())?;
             parser.rest = rest;
             return Ok(StringLiteral {
                 value,

@@ -21,7 +21,7 @@ fn said(alloc: Global, kind: &TokenKind) -> Result<String, AllocError> {
     match kind {
         TokenKind::Identifier(name) => String::from_str(alloc, name),
         TokenKind::Number(value) => format!(in alloc; "#{value}"),
-        TokenKind::StringLiteral(value) => literal(alloc, value),
+        TokenKind::StringLiteral(value) => literal(alloc, value.get()),
         TokenKind::Punctuation(mark) => format!(in alloc; "{mark}"),
     }
 }
