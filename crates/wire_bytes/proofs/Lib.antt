@@ -1,2 +1,3 @@
+mod LeastLen
 mod Messages
 mod Parts

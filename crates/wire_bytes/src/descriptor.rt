@@ -4,10 +4,11 @@
 mod enumeration;
 mod field;
 mod file;
+mod least_len;
 mod message;
 mod options;
 mod service;
 mod type_name;
 mod whole_number;
 
-pub use file::file_bytes;
+pub use file::{file_bytes, file_bytes_within};

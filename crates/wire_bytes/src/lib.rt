@@ -7,5 +7,5 @@
 mod backward;
 mod descriptor;
 
-pub use descriptor::file_bytes;
+pub use descriptor::{file_bytes, file_bytes_within};
 pub use wire_format::{Field, FieldValue, WireError, put_field, put_varint, read_fields};

@@ -24,19 +24,20 @@ use share_work::phases::WRITING;
 use share_work::{Gate, ItemWork};
 use std::alloc::{AllocError, AllocGlobal, Global};
 use std::thread::Threads;
-use wire_bytes::file_bytes;
+use wire_bytes::file_bytes_within;
 
 /// The bytes of a file's descriptor, if there are no more than the limit.
 fn write(alloc: Global, desc: &FileDesc, limits: &Limits) -> Result<Vec<u8>, FileError>
     requires { file_resolved desc.now ≡ true }
     ensures { IsWrittenShort limits.now desc.now result }
 {
-    let bytes = file_bytes(alloc, desc)?;
-    if bytes.len() as u64 > limits.get(Limit::DescriptorBytes) {
-        let kind = Kind::DescriptorTooLong;
-        return Err(FileError::at(ONLY_STEP, Spot { place: START, kind }));
+    match file_bytes_within(alloc, desc, limits.get(Limit::DescriptorBytes))? {
+        Some(bytes) => Ok(bytes),
+        None => {
+            let kind = Kind::DescriptorTooLong;
+            Err(FileError::at(ONLY_STEP, Spot { place: START, kind }))
+        }
     }
-    Ok(bytes)
 }
 
 /// Writes descriptors, each by itself.

@@ -1,11 +1,12 @@
 //! Files (`FileDescriptorProto`).
 
-ghost use Rattle.std.specs.Prelude.{◌≡◌, ◌++◌, IfOk, OnOk, codes, true};
+ghost use Rattle.std.specs.Prelude.{◌≡◌, ◌<◌, ◌≤◌, ◌++◌, IfOk, MatchOption, OnOk, codes, length, true};
 ghost use Rattle.proto_desc.specs.Resolved.{file_resolved};
 ghost use Rattle.wire_bytes.specs.Descriptor.{file_desc_bytes, package_name, public_fields, text_field};
 ghost use Rattle.wire_format.specs.Field.{bytes_field};
 
 use crate::backward::{Backward, Payload};
+use crate::descriptor::least_len::least_file_len;
 use crate::descriptor::options::prepend_options;
 use proto_base::row::Row;
 use proto_base::text::Text;
@@ -123,4 +124,26 @@ pub fn file_bytes(alloc: Global, file: &FileDesc) -> Result<Vec<u8>, AllocError>
     let mut out = Backward::with_room(alloc, expected_len(file))?;
     prepend_file(&mut out, file)?;
     out.into_vec()
+}
+
+/// The bytes of a file's descriptor, as `file_bytes` gives them, if there are at most `most` of them. Where the names of
+/// types alone are more, nothing is written. All type names are resolved. It fails only for want of memory.
+pub fn file_bytes_within(
+    alloc: Global,
+    file: &FileDesc,
+    most: u64,
+) -> Result<Option<Vec<u8>>, AllocError>
+    requires { file_resolved file.now ≡ true }
+    ensures { IfOk result (λ found. MatchOption found (most < length (file_desc_bytes file.now))
+        (λ bytes. (bytes.items ≡ file_desc_bytes file.now)
+        × (length (file_desc_bytes file.now) ≤ most))) }
+{
+    if least_file_len(file) as u64 > most {
+        return Ok(None);
+    }
+    let bytes = file_bytes(alloc, file)?;
+    if bytes.len() as u64 > most {
+        return Ok(None);
+    }
+    Ok(Some(bytes))
 }
