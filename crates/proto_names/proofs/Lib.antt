@@ -6,4 +6,5 @@ pub mod Ordered
 pub mod Searching
 pub mod Tabled
 pub mod Unique
+mod Listing
 mod EntryLemmas

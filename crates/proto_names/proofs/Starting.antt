@@ -1,5 +1,5 @@
 -- Hashes and their slots: where slots begin, and the slots of scopes as bits.
-use Rattle.proto_names.proofs.Common.{common_steps, ap, sym, fold, ◌∙◌, ◌%◌, ◌≡◌, ℕ, ◌+◌, ◌-◌, ◌*◌, ◌<◌, ◌≤◌, List, [], ◌∷◌, ◌++◌, length, take, get_or, append_assoc, arith, inl, inr, lit<, refl, IsTrue, replicate, is_lt, get_or-append_right, cases_lt, get_or-replicate, length-replicate, take_more, Contains-push_cases, ranks_by, sorted_far, le-div, Bits, HasInserted, columns_of, mod_below, hash_of, hash_step, rolling_hash, name_of, Occurrence, AreInHashOrder, name_cmp, is_scope, at, blank, TellsScopes, tells}
+use Rattle.proto_names.proofs.Common.{common_steps, ap, sym, fold, scoped, drop, drop-append_seam, IsCandidate, ◌∙◌, ◌%◌, ◌≡◌, ℕ, ◌+◌, ◌-◌, ◌*◌, ◌<◌, ◌≤◌, List, [], ◌∷◌, ◌++◌, length, take, get_or, append_assoc, arith, inl, inr, lit<, refl, IsTrue, replicate, is_lt, get_or-append_right, cases_lt, get_or-replicate, length-replicate, take_more, Contains-push_cases, ranks_by, sorted_far, le-div, Bits, HasInserted, columns_of, mod_below, hash_of, hash_step, rolling_hash, name_of, Occurrence, AreInHashOrder, name_cmp, is_scope, at, blank, TellsScopes, tells}
 use Rattle.std.proofs.Math.ListN.{get_or-append}
 use Rattle.std.proofs.Math.Nat.{add-mod-mod, div-lt_iff_lt-mul, div-mul-le_self, mod-add-mod, mul-le-mul_right, mul-lt-mul_of_pos_right, mul_assoc}
 use Rattle.std.proofs.lemmas.List.{length-append}
@@ -7,7 +7,8 @@ use Rattle.std.proofs.lemmas.List.Folds.{fold_along}
 use Rattle.std.proofs.lemmas.List.Sums.{fold-append}
 use Rattle.std.proofs.lemmas.Nat.{mul-mod_first, mul-mod_second}
 use Rattle.proto_names.specs.Hashes.{spread}
-use Rattle.proto_names.specs.Starts.{AreStarts, BeginsSlot, slot_at, slot_of}
+use Rattle.proto_names.specs.Hashes.{slot_of}
+use Rattle.proto_names.specs.Starts.{AreStarts, BeginsSlot, slot_at}
 use Rattle.proto_names.proofs.Ordered.{first_not, name_total, not_below}
 
 -- ---- hashes
@@ -19,6 +20,32 @@ rolling_below name =
 pub hash_below : (name : List ℕ) → hash_of name < 4294967296
 unfolding spread
 hash_below name = mod_below (rolling_hash name * 2654435769) 4294967296 (lit< tt)
+
+-- what stands before a name in a scope
+pub dotted_hash : (s : List ℕ) → 0 < length s → rolling_hash (scoped s []) ≡ hash_step (rolling_hash s) 46
+dotted_hash [] some = absurd (omega (arith, some))
+dotted_hash (c ∷ cs) some = fold-append hash_step 0 (c ∷ cs) (46 ∷ [])
+
+-- and with the name behind it
+pub scoped_hash : (s name : List ℕ)
+    → fold hash_step (rolling_hash (scoped s [])) name ≡ rolling_hash (scoped s name)
+scoped_hash [] name = refl
+scoped_hash (c ∷ cs) name = sym (ap rolling_hash (sym (append_assoc (c ∷ cs) (46 ∷ []) name))
+    ∙ fold-append hash_step 0 ((c ∷ cs) ++ 46 ∷ []) name)
+
+-- the parts of a scope that another one around it has
+pub around_prefix : (outer s : List ℕ) → IsCandidate outer s → length outer < length s
+    → scoped outer [] ++ drop (length (scoped outer [])) s ≡ s
+around_prefix [] s is less = refl
+around_prefix (c ∷ cs) s (inl e) less = cc
+around_prefix (c ∷ cs) s (inr (inl e)) less = absurd (omega (arith, less, ap length e))
+around_prefix (c ∷ cs) s (inr (inr (rest, e))) less =
+    let dotted : List ℕ = (c ∷ cs) ++ 46 ∷ [] in
+    rw (e ∙ sym (append_assoc (c ∷ cs) (46 ∷ []) rest)) (ap (λ x. dotted ++ x) (drop-append_seam dotted rest))
+
+pub dotted_length : (s : List ℕ) → 0 < length s → length (scoped s []) ≡ length s + 1
+dotted_length [] some = absurd (omega (arith, some))
+dotted_length (c ∷ cs) some = grind (arith, common_steps)
 
 -- the rolling hash of a text is that of all but its last byte, and the byte
 pub hash_end : (prefix bytes : List ℕ) (k d : ℕ) → k < length bytes

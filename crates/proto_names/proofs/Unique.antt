@@ -1,5 +1,5 @@
 -- What a spelled name means, in the scopes around it: one thing, and the same among the same occurrences that are seen.
-use Rattle.proto_names.proofs.Common.{◌≡◌, ◌≢◌, ◌∙◌, sym, ℕ, suc, ◌+◌, ◌-◌, ◌<◌, List, [], ◌∷◌, ◌++◌, length, take, drop, get_or, ap, refl, arith, inl, inr, ◌⊎◌, add-one, append_assoc, ◌↔◌, Bool, false, true≢false, Option, None, Some, MatchOption, IsTrue, Contains, common_steps, cases_order, get_or_at, get_or-drop, get_or_default, split_at, take-append_seam, take-append-add, take-length, IsCandidate, prefixes, scoped, Occurrence, is_type, is_scope, is_message, Visible, Decides, IsAbsolute, IsInnermost, Means, IsType, Resolves, ResolvesNowhere, message, enumeration, Contains-get_or, at, blank, HasNoType, HasOneIn, IsNoType, IsTypeAmong, fits}
+use Rattle.proto_names.proofs.Common.{◌≡◌, ◌≢◌, ◌∙◌, sym, ℕ, suc, ◌+◌, ◌-◌, ◌<◌, ◌≤◌, List, [], ◌∷◌, ◌++◌, length, take, drop, get_or, ap, refl, arith, inl, inr, ◌⊎◌, add-one, append_assoc, ◌↔◌, Bool, false, true≢false, Option, None, Some, MatchOption, IsTrue, Contains, common_steps, cases_order, get_or_at, get_or-drop, get_or_default, split_at, take-append_seam, take-append-add, take-length, IsCandidate, prefixes, scoped, Occurrence, is_type, is_scope, is_message, Visible, Decides, IsAbsolute, IsInnermost, Means, IsType, Resolves, ResolvesNowhere, message, enumeration, Contains-get_or, at, blank, HasNoType, HasOneIn, IsNoType, IsTypeAmong, fits}
 use Rattle.std.proofs.lemmas.List.{length-drop}
 use Rattle.proto_desc.specs.declared.name_kind.NameKind.{NameKind}
 use Rattle.proto_names.specs.SeenAlike.{AreSeenAlike}
@@ -75,6 +75,9 @@ candidates_no_dot s d none h = grind (arith, dot_at d, none (length d))
 pub candidate_trans : (a b s : List ℕ) → IsCandidate a b → IsCandidate b s → IsCandidate a s
 candidate_trans a b s (inr (inr (rest, e))) (inr (inr (more, f))) = grind (arith, common_steps, append_assoc)
 candidate_trans a b s h k = grind (arith, common_steps, no_room)
+
+pub candidate_length : (c s : List ℕ) → IsCandidate c s → length c ≤ length s
+candidate_length c s h = grind (arith, common_steps)
 
 -- candidates of one length are one
 pub candidates_same : (a b s : List ℕ) → IsCandidate a s → IsCandidate b s → length a ≡ length b → a ≡ b

@@ -1,5 +1,5 @@
 -- Hashes of names: the rolling hash of a name's bytes, spread.
-use Rattle.std.specs.Prelude.{ℕ, ◌+◌, ◌*◌, ◌%◌, List}
+use Rattle.std.specs.Prelude.{ℕ, ◌+◌, ◌*◌, ◌/◌, ◌%◌, List}
 use Rattle.std.specs.List.{fold}
 
 -- a rolling hash with a byte more
@@ -15,3 +15,7 @@ spread hash = hash * 2654435769 % 4294967296
 
 abbrev pub hash_of : List ℕ → ℕ
 hash_of name = spread (rolling_hash name)
+
+-- the slot of a hash, among so many: a larger hash has no smaller slot
+abbrev pub slot_of : ℕ → ℕ → ℕ
+slot_of count hash = hash * count / 4294967296

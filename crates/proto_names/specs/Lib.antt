@@ -16,3 +16,5 @@ pub mod Steps
 pub mod Repeated
 pub mod SeenAlike
 pub mod ScopeHashes
+pub mod Around
+pub mod Found

@@ -1,10 +1,9 @@
 -- Words of private contracts: the hashes that the names of scopes have, as a row of bits for slots of hashes.
 use Rattle.std.specs.Prelude.{ℕ, List, Bool, Contains, IsTrue}
 use Rattle.bit_matrix.specs.Bits.{Bits, has}
-use Rattle.proto_names.specs.Hashes.{hash_of}
+use Rattle.proto_names.specs.Hashes.{hash_of, slot_of}
 use Rattle.proto_names.specs.Occurrences.{Occurrence}
 use Rattle.proto_names.specs.Resolution.{is_scope}
-use Rattle.proto_names.specs.Starts.{slot_of}
 
 -- whether the bit for a hash is set, among so many slots
 abbrev pub tells : Bits → ℕ → ℕ → Bool

@@ -1,6 +1,6 @@
 -- Words of private contracts: where each slot of hashes begins, among occurrences in the order of their names' hashes.
-use Rattle.std.specs.Prelude.{◌≡◌, ◌≢◌, ℕ, ◌-◌, ◌*◌, ◌/◌, ◌<◌, ◌≤◌, List, length, slice_index_or}
-use Rattle.proto_names.specs.Hashes.{hash_of}
+use Rattle.std.specs.Prelude.{◌≡◌, ◌≢◌, ℕ, ◌-◌, ◌<◌, ◌≤◌, List, length, slice_index_or}
+use Rattle.proto_names.specs.Hashes.{hash_of, slot_of}
 use Rattle.proto_names.specs.Occurrences.{Occurrence}
 use Rattle.proto_names.specs.Runs.{at}
 
@@ -16,10 +16,6 @@ pub record IsStart (os : List Occurrence) (name : List ℕ) (start : ℕ) : Type
 
 abbrev pub IsNowhere : List Occurrence → List ℕ → Type 0
 IsNowhere os name = (k : ℕ) → k < length os → (at os k).name ≢ name
-
--- the slot of a hash, among so many: a larger hash has no smaller slot
-abbrev pub slot_of : ℕ → ℕ → ℕ
-slot_of count hash = hash * count / 4294967296
 
 -- the slot of what stands at a position
 abbrev pub slot_at : List Occurrence → ℕ → ℕ → ℕ

@@ -4,6 +4,7 @@ use Rattle.std.specs.Prelude.{◌≡◌, ◌⊎◌, ℕ, ◌<◌, List, length, 
 use Rattle.proto_desc.specs.DeclaredNames.{scoped}
 use Rattle.proto_desc.specs.declared.name_kind.NameKind.{NameKind}
 use Rattle.proto_desc.specs.declared.name_kind.NameKind.TheVariants as kind
+use Rattle.proto_names.specs.Around.{scope_at}
 use Rattle.proto_names.specs.Occurrences.{Occurrence}
 use Rattle.proto_names.specs.Resolution.{is_message, is_type, is_scope, Decides, IsType, Visible}
 use Rattle.proto_names.specs.Runs.{at}
@@ -46,6 +47,7 @@ before (Some k) spelled = take k spelled
 abbrev pub first_part : List ℕ → List ℕ
 first_part spelled = before (position is_dot spelled) spelled
 
+-- whether more than the first part is spelled
 abbrev pub has_dot : List ℕ → Bool
 has_dot spelled = is_some (position is_dot spelled)
 
@@ -54,3 +56,15 @@ abbrev pub IsDecision : List Occurrence → (ℕ → Type 0) → List ℕ → Li
 IsDecision os Seen c spelled (decision.Known what) =
     Decides os Seen c spelled × IsType os Seen (scoped c spelled) what
 IsDecision os Seen c spelled decision.Scope = Decides os Seen c spelled
+
+-- none of some scopes decides what a spelled name means
+abbrev pub NoneDecides : List Occurrence → (ℕ → Type 0) → List (List ℕ) → List ℕ → Type 0
+NoneDecides os Seen scopes spelled = (k : ℕ) → k < length scopes → Decides os Seen (scope_at scopes k) spelled → ⊥
+
+-- the first that does
+pub record IsFirstDecided (os : List Occurrence) (Seen : ℕ → Type 0) (scopes : List (List ℕ))
+    (spelled c : List ℕ) : Type 0 where
+  pub at : ℕ
+  pub within : at < length scopes
+  pub is : scope_at scopes at ≡ c
+  pub before : (k : ℕ) → k < at → Decides os Seen (scope_at scopes k) spelled → ⊥

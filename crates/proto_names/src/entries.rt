@@ -42,7 +42,7 @@ impl Model for Entries {
 /// What an entry that stands in no scope has as the position of its scope's entry.
 const NO_SCOPE: usize = usize::MAX;
 
-/// The entry at a position as a scope, where it has this name in a scope. A name that is empty is none.
+/// The scope that an entry of this name is for what stands in it: none, where its full name is empty.
 fn as_scope(position: usize, scope: Option<usize>, name: &str) -> Option<usize>
     ensures { MatchOption result ((scope ≡ None) × (name.now ≡ []))
         (λ k. (k ≡ position) × ((scope ≢ None) ⊎ (name.now ≢ []))) }

@@ -3,7 +3,7 @@
 
 ghost use Rattle.std.specs.Prelude.{◌≡◌, ℕ, ◌+◌, ◌*◌, ◌%◌, ◌<◌, ◌++◌, List};
 ghost use Rattle.std.specs.List.{fold};
-ghost use Rattle.proto_names.specs.Hashes.{hash_step, rolling_hash, spread};
+ghost use Rattle.proto_names.specs.Hashes.{hash_of, hash_step, rolling_hash, spread};
 
 /// More than any hash.
 const MODULUS: u64 = 4_294_967_296;
@@ -40,11 +40,18 @@ pub(crate) fn with_text(start: u32, text: &str) -> u32
     hash
 }
 
+/// The hash of a name.
+pub fn name_hash(name: &str) -> u32
+    ensures { result ≡ hash_of name.now }
+{
+    spread(with_text(0, name))
+}
+
 /// The inverse of `FACTOR`, modulo 2^32.
 const INVERSE: u64 = 899_433_627;
 
 /// A rolling hash before its last byte came.
-fn without_byte(hash: u32, byte: u8) -> u32
+pub(crate) fn without_byte(hash: u32, byte: u8) -> u32
     ensures { (before : ℕ) → before < 4294967296 → hash ≡ hash_step before byte → result ≡ before }
 {
     ((hash as u64 + MODULUS - byte as u64) * INVERSE % MODULUS) as u32

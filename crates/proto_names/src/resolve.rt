@@ -5,11 +5,13 @@ ghost use Rattle.proto_desc.specs.DeclaredNames.{scoped};
 ghost use Rattle.proto_desc.specs.declared.name_kind.NameKind.{NameKind};
 ghost use Rattle.proto_desc.specs.declared.name_kind.NameKind.TheVariants as kinds;
 ghost use Rattle.proto_links.specs.Linked.{count_of};
+ghost use Rattle.proto_names.specs.Around.{AreScopes, IsNone, texts_of};
+ghost use Rattle.proto_names.specs.Found.{IsFound, IsFoundInside};
 ghost use Rattle.proto_names.specs.Occurrences.{Occurrence};
-ghost use Rattle.proto_names.specs.Resolution.{SeenBy, Decides, IsAbsolute, IsInnermost, IsType, Resolves, ResolvesNowhere, Visible};
+ghost use Rattle.proto_names.specs.Resolution.{SeenBy, Decides, IsType, Resolves, ResolvesNowhere, Visible};
 ghost use Rattle.proto_names.specs.SeenAlike.{AreSeenAlike, IsSeen};
 ghost use Rattle.proto_names.specs.Scopes.{IsCandidate};
-ghost use Rattle.proto_names.specs.Steps.{IsDecision, IsNoType, first_part, fits, has_dot};
+ghost use Rattle.proto_names.specs.Steps.{IsDecision, IsFirstDecided, IsNoType, NoneDecides, first_part, fits, has_dot};
 ghost use Rattle.proto_names.specs.declared.resolve.ResolveError.TheVariants as errors;
 ghost use Rattle.proto_names.specs.declared.resolve.Want.TheVariants as wants;
 
@@ -17,6 +19,7 @@ use crate::full_name::name_in;
 use crate::hashing::HashedName;
 use crate::index::NameIndex;
 use crate::scope::Scope;
+use crate::scopes::Scopes;
 use crate::visible::{Role, sees_one, type_among};
 use proto_desc::name_kind::NameKind;
 use proto_links::{FileId, Links};
@@ -56,6 +59,15 @@ pub struct FoundType<'n> {
     pub scope: &'n str,
     pub name: &'n str,
     pub kind: NameKind,
+}
+
+/// What a name was found to mean in a scope and those around it that stand in another one.
+#[derive(Clone, Copy)]
+pub enum FoundInside<'n> {
+    /// One of them decides: the name is this type, or none.
+    Here(Option<FoundType<'n>>),
+    /// None of them decides. The name means what it means in the other one.
+    Outside,
 }
 
 /// What a scope decides of a spelled name.
@@ -205,51 +217,50 @@ impl NameIndex {
         }
     }
 
-    /// The innermost scope that decides what a spelled name means, with what it decides.
+    /// The first of some scopes that decides what a spelled name means, with what it decides.
     fn innermost<'s>(
         &self,
         links: &Links,
         file: FileId,
-        scope: Scope<'s>,
+        scopes: &[Scope<'s>],
         spelled: &str,
     ) -> Option<(Scope<'s>, Decision)>
         requires links { count_of links.now ≡ self.now.files }
         requires file { file < self.now.files }
-        ensures { MatchOption result ((c : List ℕ) → IsCandidate c scope.entry.text.now
-            → Decides self.now.occurrences (SeenBy links.now file) c spelled.now → ⊥)
-            (λ inner. IsInnermost self.now.occurrences (SeenBy links.now file) scope.entry.text.now spelled.now
-            inner.0.text.now × IsDecision self.now.occurrences (SeenBy links.now file)
+        ensures { MatchOption result (NoneDecides self.now.occurrences (SeenBy links.now file)
+            (texts_of scopes.now) spelled.now)
+            (λ inner. IsFirstDecided self.now.occurrences (SeenBy links.now file) (texts_of scopes.now)
+            spelled.now inner.0.text.now × IsDecision self.now.occurrences (SeenBy links.now file)
             inner.0.text.now spelled.now inner.1) }
     {
         let name = SpelledName::new(spelled);
-        let mut inner = scope;
-        loop {
-            if let Some(decision) = self.decision(links, file, inner, name) {
-                return Some((inner, decision));
-            }
-            match inner.parent() {
-                Some(outer) => inner = outer,
-                None => return None,
+        for scope in scopes {
+            if let Some(decision) = self.decision(links, file, *scope, name) {
+                return Some((*scope, decision));
             }
         }
+        None
     }
 
-    /// The type that a spelled name without a leading dot means.
-    fn find_relative<'n>(
+    /// The type that a spelled name is in the innermost scope that decides, if it is one, by what this scope decides.
+    fn type_in<'n>(
         &self,
         links: &Links,
         file: FileId,
-        scope: Scope<'n>,
+        inner: Scope<'n>,
+        decision: Decision,
         spelled: &'n str,
     ) -> Option<FoundType<'n>>
         requires links { count_of links.now ≡ self.now.files }
         requires file { file < self.now.files }
-        requires relative { (rest : List ℕ) → IsAbsolute spelled.now rest → ⊥ }
-        ensures { MatchOption result (ResolvesNowhere self.now.occurrences (SeenBy links.now file)
-            scope.entry.text.now spelled.now) (λ t. Resolves self.now.occurrences (SeenBy links.now file)
-            scope.entry.text.now spelled.now (scoped t.scope.now t.name.now) t.kind) }
+        requires decided { IsDecision self.now.occurrences (SeenBy links.now file) inner.text.now
+            spelled.now decision }
+        ensures { MatchOption result ((what : NameKind) → IsType self.now.occurrences
+            (SeenBy links.now file) (scoped inner.entry.text.now spelled.now) what → ⊥)
+            (λ t. (scoped t.scope.now t.name.now ≡ scoped inner.entry.text.now spelled.now)
+            × IsType self.now.occurrences (SeenBy links.now file)
+            (scoped inner.entry.text.now spelled.now) t.kind) }
     {
-        let (inner, decision) = self.innermost(links, file, scope, spelled)?;
         let kind = match decision {
             Decision::Known(kind) => kind,
             Decision::Scope => self.type_of(links, file, inner, HashedName::new(spelled))?,
@@ -262,19 +273,18 @@ impl NameIndex {
     }
 
     /// The type that a spelled name means in a scope of a file (language guide, "Packages and Name Resolution"), among
-    /// what the file sees, if it means one. It takes no memory.
+    /// what the file sees, if it means one. The scopes are this one and all around it. It takes no memory.
     pub fn find_type<'n>(
         &self,
         links: &Links,
         file: FileId,
-        scope: Scope<'n>,
+        scopes: &Scopes<'n>,
         spelled: &'n str,
     ) -> Option<FoundType<'n>>
         requires links { count_of links.now ≡ self.now.files }
         requires file { file < self.now.files }
-        ensures { MatchOption result (ResolvesNowhere self.now.occurrences (SeenBy links.now file)
-            scope.entry.text.now spelled.now) (λ t. Resolves self.now.occurrences (SeenBy links.now file)
-            scope.entry.text.now spelled.now (scoped t.scope.now t.name.now) t.kind) }
+        ensures { (scope : List ℕ) → AreScopes scope IsNone scopes.now
+            → IsFound self.now.occurrences (SeenBy links.now file) scope spelled.now result }
     {
         match spelled.strip_prefix('.') {
             Some(full) => {
@@ -285,7 +295,37 @@ impl NameIndex {
                     kind,
                 })
             }
-            None => self.find_relative(links, file, scope, spelled),
+            None => {
+                let (inner, decision) = self.innermost(links, file, &scopes.scopes, spelled)?;
+                self.type_in(links, file, inner, decision, spelled)
+            }
+        }
+    }
+
+    /// The same, where the scopes are the one of the name and those around it that stand in another one: what the name
+    /// means, if one of them decides, and else that it means what it means in this other one.
+    pub fn find_inside<'n>(
+        &self,
+        links: &Links,
+        file: FileId,
+        scopes: &Scopes<'n>,
+        spelled: &'n str,
+    ) -> FoundInside<'n>
+        requires links { count_of links.now ≡ self.now.files }
+        requires file { file < self.now.files }
+        ensures { (scope outside : List ℕ) → IsCandidate outside scope
+            → AreScopes scope (λ c. IsCandidate c outside) scopes.now
+            → IsFoundInside self.now.occurrences (SeenBy links.now file) scope outside spelled.now
+            result }
+    {
+        if let Some(_) = spelled.strip_prefix('.') {
+            return FoundInside::Outside;
+        }
+        match self.innermost(links, file, &scopes.scopes, spelled) {
+            Some((inner, decision)) => {
+                FoundInside::Here(self.type_in(links, file, inner, decision, spelled))
+            }
+            None => FoundInside::Outside,
         }
     }
 
@@ -313,7 +353,8 @@ impl NameIndex {
             × Resolves self.now.occurrences (SeenBy links.now file) scope.now spelled.now full
             kinds.Enum) }
     {
-        let Some(found) = self.find_type(links, file, Scope::new(scope), spelled) else {
+        let scopes = Scopes::around(alloc, scope)?;
+        let Some(found) = self.find_type(links, file, &scopes, spelled) else {
             return Err(ResolveError::TypeNotFound);
         };
         if !want.allows(found.kind) {

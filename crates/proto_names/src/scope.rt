@@ -1,12 +1,11 @@
 //! Scopes: texts of parts with dots between them.
 
-ghost use Rattle.std.specs.List.{fold};
 ghost use Rattle.std.specs.Prelude.{◌≡◌, ◌⊎◌, ℕ, ◌<◌, ◌++◌, [], ◌∷◌, List, drop, length, MatchOption};
 ghost use Rattle.proto_desc.specs.DeclaredNames.{scoped};
-ghost use Rattle.proto_names.specs.Hashes.{hash_of, hash_step, rolling_hash};
+ghost use Rattle.proto_names.specs.Hashes.{hash_of, rolling_hash};
 ghost use Rattle.proto_names.specs.Scopes.{IsCandidate, prefixes};
 
-use crate::hashing::{HashedName, hash_before, spread, with_byte, with_text};
+use crate::hashing::{HashedName, hash_before, spread, with_byte, with_text, without_byte};
 
 /// The longest prefix of a text that a dot follows, if there is a dot.
 pub(crate) fn shorter_prefix(text: &str) -> Option<&str>
@@ -20,28 +19,27 @@ pub(crate) fn shorter_prefix(text: &str) -> Option<&str>
 }
 
 /// The text of the scope around this one.
-fn parent(scope: &str) -> Option<&str>
-    ensures { MatchOption result (scope.now ≡ [])
-        (λ outer. IsCandidate outer.now scope.now × (length outer.now < length scope.now)
-        × ((c : List ℕ) → IsCandidate c scope.now → (c ≡ scope.now) ⊎ IsCandidate c outer.now)) }
+fn parent(scope: &str) -> &str
+    requires { 0 < length scope.now }
+    ensures candidate { IsCandidate result.now scope.now }
+    ensures shorter { length result.now < length scope.now }
+    ensures next { (c : List ℕ) → IsCandidate c scope.now
+        → (c ≡ scope.now) ⊎ IsCandidate c result.now }
 {
-    if scope.is_empty() {
-        return None;
-    }
     match scope.rfind('.') {
-        Some(at) => Some(&scope[..at]),
-        None => Some(""),
+        Some(at) => &scope[..at],
+        None => "",
     }
 }
 
-/// A scope. It keeps the rolling hash of its full name, which is computed once for all names that are looked up in it
-/// (language guide, "Packages and Name Resolution").
+/// A scope. It keeps the rolling hash of what stands before a name in it, which is computed once for all names that are
+/// looked up in it (language guide, "Packages and Name Resolution").
 #[derive(Clone, Copy)]
 pub struct Scope<'s> {
     /// The full name, empty for what stands in no package.
     pub text: &'s str,
-    rolling: u32,
-    ghost hashed: { rolling ≡ rolling_hash text.now },
+    before_name: u32,
+    ghost hashed: { before_name ≡ rolling_hash (scoped text.now []) },
 }
 
 impl<'s> Scope<'s> {
@@ -49,10 +47,13 @@ impl<'s> Scope<'s> {
     pub fn new(text: &'s str) -> Scope<'s>
         ensures { result.text.now ≡ text.entry.now }
     {
-        Scope {
-            text,
-            rolling: with_text(0, text),
-        }
+        let rolling = with_text(0, text);
+        let before_name = if text.is_empty() {
+            rolling
+        } else {
+            with_byte(rolling, b'.')
+        };
+        Scope { text, before_name }
     }
 
     /// The scope of what stands in no package.
@@ -62,35 +63,25 @@ impl<'s> Scope<'s> {
         Scope::new("")
     }
 
-    /// The rolling hash of what stands before a name in the scope.
-    fn hash_before_name(self) -> u32
-        ensures { (name : List ℕ) → fold hash_step result name
-            ≡ rolling_hash (scoped self.entry.text.now name) }
-    {
-        if self.text.is_empty() {
-            self.rolling
-        } else {
-            with_byte(self.rolling, b'.')
-        }
-    }
-
     /// The hash of the name in the scope, without a walk over its bytes.
     pub(crate) fn hash_with(self, name: HashedName) -> u32
         ensures { result ≡ hash_of (scoped self.entry.text.now name.entry.text.now) }
     {
-        spread(name.behind(self.hash_before_name()))
+        spread(name.behind(self.before_name))
     }
 
-    /// The scope around this one, whose hash comes out of this one's.
-    pub(crate) fn parent(self) -> Option<Scope<'s>>
-        ensures { MatchOption result (self.entry.text.now ≡ [])
-            (λ outer. IsCandidate outer.text.now self.entry.text.now
-            × (length outer.text.now < length self.entry.text.now)
-            × ((c : List ℕ) → IsCandidate c self.entry.text.now
-            → (c ≡ self.entry.text.now) ⊎ IsCandidate c outer.text.now)) }
+    /// The scope around this one, which is not the outermost. Its hash comes out of this one's.
+    pub(crate) fn parent(self) -> Scope<'s>
+        requires { 0 < length self.text.now }
+        ensures candidate { IsCandidate result.text.now self.entry.text.now }
+        ensures shorter { length result.text.now < length self.entry.text.now }
+        ensures next { (c : List ℕ) → IsCandidate c self.entry.text.now
+            → (c ≡ self.entry.text.now) ⊎ IsCandidate c result.text.now }
     {
-        let text = parent(self.text)?;
-        let rolling = hash_before(self.rolling, &self.text.as_bytes()[text.len()..]);
-        Some(Scope { text, rolling })
+        let text = parent(self.text);
+        let start = if text.is_empty() { 0 } else { text.len() + 1 };
+        let rolling = without_byte(self.before_name, b'.');
+        let before_name = hash_before(rolling, &self.text.as_bytes()[start..]);
+        Scope { text, before_name }
     }
 }

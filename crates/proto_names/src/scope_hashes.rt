@@ -21,13 +21,27 @@ pub(crate) struct ScopeHashes {
     ghost columns: { slots ≤ columns_of bits },
 }
 
+/// How many slots there are for each scope. A slot in eight is set then, and all of them take little of the processor's memory.
+const SLOTS_OF_A_SCOPE: usize = 8;
+
+/// How many of the names are scopes'.
+fn count_scopes(names: &Names) -> usize
+    ensures { result ≤ length names.now }
+{
+    let mut count = 0;
+    for position in 0..names.len() {
+        count += usize::from(Role::Scope.fits(names.kind(position)));
+    }
+    count
+}
+
 impl ScopeHashes {
     /// The hashes of the scopes among entries.
     pub(crate) fn among(alloc: Global, names: &Names) -> Result<ScopeHashes, AllocError>
         requires { length names.now ≤ 1_048_576 }
         ensures { IfOk result (λ hashes. TellsScopes names.now hashes.bits hashes.slots) }
     {
-        let slots = names.len() + 1;
+        let slots = count_scopes(names) * SLOTS_OF_A_SCOPE + 1;
         let mut bits = BitMatrix::new(alloc, slots);
         bits.push_row()?;
         for position in 0..names.len() {

@@ -3,10 +3,10 @@
 
 ghost use Rattle.std.specs.Prelude.{◌≡◌, ◌↔◌, ◌-◌, ◌<◌, ◌≤◌, ◌++◌, length, replicate, IfOk, OnOk, IsTrue, MatchOption};
 ghost use Rattle.proto_desc.specs.DeclaredNames.{scoped};
-ghost use Rattle.proto_names.specs.Hashes.{hash_of};
+ghost use Rattle.proto_names.specs.Hashes.{hash_of, slot_of};
 ghost use Rattle.proto_names.specs.Order.{AreInHashOrder};
 ghost use Rattle.proto_names.specs.Runs.{at};
-ghost use Rattle.proto_names.specs.Starts.{AreStarts, IsNowhere, IsStart, slot_of};
+ghost use Rattle.proto_names.specs.Starts.{AreStarts, IsNowhere, IsStart};
 
 use crate::halving::start_by_halving;
 use crate::names::Names;
@@ -19,7 +19,7 @@ pub(crate) struct Starts {
 }
 
 /// The slot of a hash, among so many. A larger hash has no smaller slot.
-pub(crate) fn slot_of(count: usize, hash: u32) -> usize
+pub fn slot_of(count: usize, hash: u32) -> usize
     requires some { 0 < count }
     requires few { count < 4_294_967_296 }
     ensures slot { result ≡ slot_of count hash }

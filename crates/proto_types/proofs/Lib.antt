@@ -4,3 +4,4 @@ mod Recalls
 pub mod Walking
 pub mod Trees
 pub mod Unique
+mod Scoping

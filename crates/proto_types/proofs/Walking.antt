@@ -1,5 +1,5 @@
 -- What walks over references find and put, one behind another.
-use Rattle.proto_types.proofs.Common.{inr, ◌≡◌, ◌∙◌, sym, ℕ, ◌+◌, ◌<◌, ◌≤◌, List, [], ◌∷◌, ◌++◌, append_assoc, ap, arith, get_or, get_or-set_other, le_refl, length, length-set, refl, set, take, append-nil, Some, None, AllZip, lesser_none, none_of, Occurrence, IsSeen, Reference, ReferenceBreaks, Adds, AreFilled, AreFound, Finds, IsFilled, IsMeaning, Puts, Means, Meaning}
+use Rattle.proto_types.proofs.Common.{inr, ◌≡◌, ◌∙◌, sym, ℕ, ◌+◌, ◌<◌, ◌≤◌, List, [], ◌∷◌, ◌++◌, append_assoc, ap, arith, get_or, get_or-set_other, le_refl, length, length-set, refl, set, take, append-nil, flat_map, Some, None, AllZip, lesser_none, none_of, Occurrence, IsSeen, Reference, ReferenceBreaks, Adds, AreFilled, AreFound, Finds, IsFilled, IsMeaning, Puts, Means, Meaning}
 use Rattle.std.proofs.lemmas.List.{take_more, take_more_set}
 use Rattle.std.proofs.lemmas.List.Concat.{flat_map-append}
 use Rattle.std.proofs.lemmas.Slice.Zip.{all_zipped_more}
@@ -13,6 +13,13 @@ use Rattle.proto_types.specs.declared.meaning.NamedType.{NamedType}
 pub finds_both : {os : List Occurrence} {Seen : ℕ → Type 0} {rs qs : List Reference} {a b c : Found}
     → Finds os Seen rs a b → Finds os Seen qs b c → Finds os Seen (rs ++ qs) a c
 finds_both {rs = rs} {qs = qs} h k before old = rw (← append_assoc before rs qs) (k (before ++ rs) (h before old))
+
+-- what the next of some items names is found behind what those before it name
+pub finds_next : {X : Type 0} {os : List Occurrence} {Seen : ℕ → Type 0} {a b c : Found} (f : X → List Reference)
+    (xs : List X) (i : ℕ) (x : X) → i < length xs → x ≡ get_or xs i x → Finds os Seen (flat_map f (take i xs)) a b
+    → Finds os Seen (f x) b c → Finds os Seen (flat_map f (take (i + 1) xs)) a c
+finds_next f xs i x low at h k =
+    rw (take_more xs i x low ∙ ap (λ z. take i xs ++ z ∷ []) (sym at)) (rw flat_map-append (rw append-nil (finds_both h k)))
 
 pub finds_one : (os : List Occurrence) (Seen : ℕ → Type 0) (r : Reference) (m : Meaning) (old new : Found)
     → IsMeaning os Seen r m → Adds m old new → Finds os Seen (r ∷ []) old new

@@ -2,3 +2,4 @@ pub mod Recalling
 pub mod References
 pub mod Typed
 pub mod Steps
+pub mod Sight

@@ -1,5 +1,5 @@
 -- Words of private contracts: the names that were looked up last in a scope.
-use Rattle.std.specs.Prelude.{◌≡◌, ◌⊎◌, ℕ, List, [], ◌∷◌, ◌++◌, Option, None, Some, MatchOption, All}
+use Rattle.std.specs.Prelude.{◌≡◌, ◌⊎◌, ℕ, List, [], ◌∷◌, ◌++◌, Option, None, Some, All, Contains}
 use Rattle.proto_base.specs.Least.{spot}
 use Rattle.proto_base.specs.declared.kind.Kind.TheVariants as kind
 use Rattle.proto_base.specs.declared.place.Place.{Place}
@@ -8,23 +8,28 @@ use Rattle.proto_desc.specs.declared.name_kind.NameKind.{NameKind}
 use Rattle.proto_desc.specs.declared.name_kind.NameKind.TheVariants as name_kind
 use Rattle.proto_desc.specs.declared.options.OptionDescriptor.{OptionDescriptor}
 use Rattle.proto_names.specs.Occurrences.{Occurrence}
-use Rattle.proto_names.specs.Resolution.{Resolves, ResolvesNowhere}
+use Rattle.proto_names.specs.Around.{AreScopes}
+use Rattle.proto_names.specs.Found.{IsFound}
+use Rattle.proto_names.specs.Resolution.{SeenBy}
+use Rattle.proto_names.specs.Scopes.{IsCandidate}
 use Rattle.proto_names.specs.declared.resolve.FoundType.{FoundType}
 use Rattle.proto_names.specs.declared.resolve.Want.{Want}
 use Rattle.proto_names.specs.declared.resolve.Want.TheVariants as want
 use Rattle.proto_types.specs.Steps.{IsNaming, type_kind_of}
 use Rattle.proto_types.specs.declared.meaning.Meaning.{Meaning}
 use Rattle.proto_types.specs.declared.meaning.Meaning.TheVariants.{Wrong}
+use Rattle.proto_types.specs.declared.finder.Spelling.{Spelling}
 use Rattle.proto_types.specs.declared.recalled.Recalled.{Recalled}
-
--- what a name means in a scope, as a type: this one, or none
-abbrev pub IsNamed : List Occurrence → (ℕ → Type 0) → (scope spelled : List ℕ) → Option FoundType → Type 0
-IsNamed os Seen scope spelled found = MatchOption found (ResolvesNowhere os Seen scope spelled)
-    (λ t. Resolves os Seen scope spelled (scoped t.scope.now t.name.now) t.kind)
+use Rattle.proto_types.specs.Sight.{Sight}
 
 -- names with what they mean in a scope
 abbrev pub AreRecalled : List Occurrence → (ℕ → Type 0) → List ℕ → List Recalled → Type 0
-AreRecalled os Seen scope recalled = All (λ r. IsNamed os Seen scope r.spelled.now r.found) recalled
+AreRecalled os Seen scope recalled = All (λ r. IsFound os Seen scope r.spelled.now r.found) recalled
+
+-- the same of slots, of which some have a name
+abbrev pub AreKept : List Occurrence → (ℕ → Type 0) → List ℕ → List (Option Recalled) → Type 0
+AreKept os Seen scope slots =
+    (r : Recalled) → Contains slots (Some r) → IsFound os Seen scope r.spelled.now r.found
 
 -- one more name is recalled, beside the others or in their place
 abbrev pub Remembers : Recalled → (old new : List Recalled) → Type 0
@@ -40,3 +45,10 @@ IsMeaningBy wanted None place options meaning = meaning ≡ Wrong (spot place ki
 IsMeaningBy wanted (Some t) place options meaning =
     (Fits wanted t.kind → IsNaming (scoped t.scope.now t.name.now) (type_kind_of t.kind) options meaning)
     × ((Fits wanted t.kind → ⊥) → meaning ≡ Wrong (spot place kind.TypeNotMessage))
+
+-- a scope in a file's package, with those around it that stand in the package, and what is recalled of it
+pub record IsSpelling (place : Sight) (inner : Spelling) : Type 0 where
+  pub inside : IsCandidate place.«package» inner.scope.now
+  pub around : AreScopes inner.scope.now (λ c. IsCandidate c place.«package») inner.scopes
+  pub recalled : AreRecalled place.index.occurrences (SeenBy place.links place.file) inner.scope.now
+      inner.recalled.items

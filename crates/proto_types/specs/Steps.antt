@@ -12,8 +12,10 @@ use Rattle.proto_base.specs.Lesser.{IsLesser}
 use Rattle.proto_base.specs.Sets.{Each}
 use Rattle.proto_base.specs.declared.spot.Spot.{Spot}
 use Rattle.proto_names.specs.Occurrences.{Occurrence}
+use Rattle.proto_names.specs.Resolution.{SeenBy}
 use Rattle.proto_names.specs.SeenAlike.{IsSeen}
 use Rattle.proto_types.specs.References.{Reference, IsPacked, ReferenceBreaks}
+use Rattle.proto_types.specs.Sight.{Sight}
 use Rattle.proto_types.specs.Typed.{Means}
 use Rattle.proto_types.specs.declared.found.Found.{Found}
 use Rattle.proto_types.specs.declared.meaning.Meaning.{Meaning}
@@ -63,6 +65,13 @@ pub record AreFound (os : List Occurrence) (Seen : ℕ → Type 0) (rs : List Re
 -- some more references are found
 abbrev pub Finds : List Occurrence → (ℕ → Type 0) → List Reference → Found → Found → Type 0
 Finds os Seen rs old new = (before : List Reference) → AreFound os Seen before old → AreFound os Seen (before ++ rs) new
+
+-- the same in a file
+abbrev pub MeansIn : Sight → Reference → Meaning → Type 0
+MeansIn place = IsMeaning place.index.occurrences (SeenBy place.links place.file)
+
+abbrev pub FindsIn : Sight → List Reference → Found → Found → Type 0
+FindsIn place = Finds place.index.occurrences (SeenBy place.links place.file)
 
 -- of types that begin with what some references mean, these are taken, and something is made
 abbrev pub Puts : List Occurrence → (ℕ → Type 0) → List Reference → Type 0 → List NamedType → List NamedType → Type 0

@@ -1,15 +1,17 @@
 //! The walk over a descriptor that finds what its names of types mean. It goes on behind a fault, so that the first one by
 //! place is found.
 
-ghost use Rattle.std.specs.Prelude.{◌≡◌, ◌<◌, flat_map, IfOk, OnOk};
-ghost use Rattle.proto_links.specs.Linked.{count_of};
-ghost use Rattle.proto_names.specs.Resolution.{SeenBy};
+ghost use Rattle.std.specs.Prelude.{◌≡◌, flat_map, IfOk, OnOk};
+ghost use Rattle.proto_desc.specs.DeclaredNames.{file_scope};
+ghost use Rattle.proto_names.specs.Scopes.{IsCandidate};
 ghost use Rattle.proto_types.specs.References.{reference_to, references_of_type, references_of_field, references_by_message, references_of_method, references_of_service, references};
-ghost use Rattle.proto_types.specs.Recalling.{AreRecalled, IsMeaningBy};
-ghost use Rattle.proto_types.specs.Steps.{Finds, IsMeaning};
+ghost use Rattle.proto_types.specs.Recalling.{IsMeaningBy, IsSpelling};
+ghost use Rattle.proto_types.specs.Sight.{Sight};
+ghost use Rattle.proto_types.specs.Steps.{FindsIn, MeansIn};
 
 use crate::found::Found;
 use crate::meaning::{Meaning, meaning_of};
+use crate::names::FileNames;
 use crate::recalled::{Recalled, recalled_as, remember};
 use proto_base::{Kind, Place, Spot};
 use proto_desc::field::{FieldDesc, FieldKind};
@@ -18,8 +20,7 @@ use proto_desc::message::MessageDesc;
 use proto_desc::options::OptionDescriptor;
 use proto_desc::service::{MethodDesc, ServiceDesc};
 use proto_desc::type_name::TypeReference;
-use proto_links::{FileId, Links};
-use proto_names::{FoundType, NameIndex, Scope, Want, name_in};
+use proto_names::{FoundType, Scopes, Want, name_in};
 use std::alloc::{AllocError, Global};
 
 /// What a name means of which this was found, where such a type is wanted, with these options.
@@ -40,124 +41,147 @@ fn meaning_by(
     Ok(Meaning::Wrong(Spot { place, kind }))
 }
 
-/// A file whose names of types are looked up among the names of all files.
+/// A scope in which names of types are spelled, with those that were looked up there last.
 #[derive(Drop)]
-pub(crate) struct Finder<'i> {
-    pub(crate) alloc: Global,
-    pub(crate) index: &'i NameIndex,
-    pub(crate) links: &'i Links,
-    pub(crate) file: FileId,
-    ghost linked: { count_of links.now ≡ index.now.files },
-    ghost known: { file < index.now.files },
+pub(crate) struct Spelling<'n> {
+    scope: &'n str,
+    /// The scope, and those around it that stand in the file's package.
+    scopes: Scopes<'n>,
+    recalled: Vec<Recalled<'n>>,
 }
 
-impl<'i> Finder<'i> {
-    /// What a name means in a scope of which names are recalled, where such a type is wanted, with these options.
-    fn meaning<'d>(
-        &self,
-        scope: Scope<'d>,
+impl<'n> Spelling<'n> {
+    /// A scope in a package, before any name of it is looked up.
+    fn new(alloc: Global, scope: &'n str, package: &str) -> Result<Spelling<'n>, AllocError>
+        requires { IsCandidate «package».now scope.now }
+        ensures scope { IfOk result (λ inner. inner.scope.now ≡ scope.now) }
+        ensures ready { (sight : Sight) → sight.«package» ≡ «package».now → IfOk result (IsSpelling sight) }
+    {
+        Ok(Spelling {
+            scope,
+            scopes: Scopes::inside(alloc, scope, package)?,
+            recalled: Vec::new(alloc),
+        })
+    }
+}
+
+/// The walk over a file's names of types.
+#[derive(Drop)]
+pub(crate) struct Finder<'i, 'd> {
+    pub(crate) alloc: Global,
+    pub(crate) names: FileNames<'i, 'd>,
+}
+
+impl<'i, 'd> Finder<'i, 'd> {
+    /// What a name means in a scope, where such a type is wanted, with these options.
+    fn meaning<'n>(
+        &mut self,
+        inner: &mut Spelling<'n>,
         text: &'d str,
         place: Place,
         want: Want,
         options: &[OptionDescriptor],
-        recalled: &mut Vec<Recalled<'d>>,
     ) -> Result<Meaning, AllocError>
-        requires { AreRecalled self.now.index.now.occurrences
-            (SeenBy self.now.links.now self.now.file) scope.text.now recalled.old.items }
-        ensures meaning { IfOk result (IsMeaning self.now.index.now.occurrences
-            (SeenBy self.now.links.now self.now.file)
-            (reference_to scope.entry.text.now text.now place want options.now)) }
-        ensures recalled { OnOk result (AreRecalled self.now.index.now.occurrences
-            (SeenBy self.now.links.now self.now.file) scope.entry.text.now recalled.new.items) }
+    where
+        'd: 'n,
+        requires { IsSpelling self.old.names inner.old }
+        ensures same { self.new.names ≡ self.old.names }
+        ensures scope { inner.new.scope.now ≡ inner.old.scope.now }
+        ensures meaning { IfOk result (MeansIn self.old.names
+            (reference_to inner.old.scope.now text.now place want options.now)) }
+        ensures ready { OnOk result (IsSpelling self.old.names inner.new) }
     {
-        if let Some(one) = recalled_as(recalled, text) {
+        if let Some(one) = recalled_as(&inner.recalled, text) {
             return meaning_by(self.alloc, one.found, place, want, options);
         }
-        let found = self.index.find_type(self.links, self.file, scope, text);
+        let found = self.names.find(&inner.scopes, text);
         let meaning = meaning_by(self.alloc, found, place, want, options)?;
-        remember(
-            recalled,
-            Recalled {
-                spelled: text,
-                found,
-            },
-        )?;
+        let one = Recalled {
+            spelled: text,
+            found,
+        };
+        remember(&mut inner.recalled, one)?;
         Ok(meaning)
     }
 
-    /// The name of a type, in a scope of which names are recalled.
-    fn reference<'d>(
-        &self,
-        scope: Scope<'d>,
+    /// The name of a type.
+    fn reference<'n>(
+        &mut self,
+        inner: &mut Spelling<'n>,
         reference: &'d TypeReference,
         want: Want,
         options: &[OptionDescriptor],
-        recalled: &mut Vec<Recalled<'d>>,
         found: &mut Found,
     ) -> Result<(), AllocError>
-        requires { AreRecalled self.now.index.now.occurrences
-            (SeenBy self.now.links.now self.now.file) scope.text.now recalled.old.items }
-        ensures found { OnOk result (Finds self.now.index.now.occurrences
-            (SeenBy self.now.links.now self.now.file)
-            (references_of_type scope.entry.text.now want options.now reference.now) found.old found.new) }
-        ensures recalled { OnOk result (AreRecalled self.now.index.now.occurrences
-            (SeenBy self.now.links.now self.now.file) scope.entry.text.now recalled.new.items) }
+    where
+        'd: 'n,
+        requires { IsSpelling self.old.names inner.old }
+        ensures same { self.new.names ≡ self.old.names }
+        ensures scope { inner.new.scope.now ≡ inner.old.scope.now }
+        ensures found { OnOk result (FindsIn self.old.names
+            (references_of_type inner.old.scope.now want options.now reference.now) found.old found.new) }
+        ensures ready { OnOk result (IsSpelling self.old.names inner.new) }
     {
         match reference {
             TypeReference::Spelled { text, place } => {
-                let text = text.as_str();
-                found.add(self.meaning(scope, text, *place, want, options, recalled)?)
+                found.add(self.meaning(inner, text.as_str(), *place, want, options)?)
             }
             TypeReference::Resolved { .. } => Ok(()),
         }
     }
 
-    fn field<'d>(
-        &self,
-        scope: Scope<'d>,
+    fn field<'n>(
+        &mut self,
+        inner: &mut Spelling<'n>,
         field: &'d FieldDesc,
-        recalled: &mut Vec<Recalled<'d>>,
         found: &mut Found,
     ) -> Result<(), AllocError>
-        requires { AreRecalled self.now.index.now.occurrences
-            (SeenBy self.now.links.now self.now.file) scope.text.now recalled.old.items }
-        ensures found { OnOk result (Finds self.now.index.now.occurrences
-            (SeenBy self.now.links.now self.now.file) (references_of_field scope.entry.text.now field.now)
-            found.old found.new) }
-        ensures recalled { OnOk result (AreRecalled self.now.index.now.occurrences
-            (SeenBy self.now.links.now self.now.file) scope.entry.text.now recalled.new.items) }
+    where
+        'd: 'n,
+        requires { IsSpelling self.old.names inner.old }
+        ensures same { self.new.names ≡ self.old.names }
+        ensures scope { inner.new.scope.now ≡ inner.old.scope.now }
+        ensures found { OnOk result (FindsIn self.old.names
+            (references_of_field inner.old.scope.now field.now) found.old found.new) }
+        ensures ready { OnOk result (IsSpelling self.old.names inner.new) }
     {
         match &field.field_type {
             FieldKind::Scalar(_) => Ok(()),
             FieldKind::Named(reference) => {
                 let options = field.options.as_slice();
-                self.reference(scope, reference, Want::AnyType, options, recalled, found)
+                self.reference(inner, reference, Want::AnyType, options, found)
             }
         }
     }
 
-    fn fields(&self, scope: &str, fields: &[FieldDesc], found: &mut Found) -> Result<(), AllocError>
-        ensures { OnOk result (Finds self.now.index.now.occurrences
-            (SeenBy self.now.links.now self.now.file)
+    fn fields(
+        &mut self,
+        scope: &str,
+        fields: &'d [FieldDesc],
+        found: &mut Found,
+    ) -> Result<(), AllocError>
+        requires { IsCandidate self.old.names.«package» scope.now }
+        ensures same { self.new.names ≡ self.old.names }
+        ensures found { OnOk result (FindsIn self.old.names
             (flat_map (references_of_field scope.now) fields.now) found.old found.new) }
     {
-        let inside = Scope::new(scope);
-        let mut recalled = Vec::new(self.alloc);
+        let mut inner = Spelling::new(self.alloc, scope, self.names.package())?;
         for field in fields {
-            self.field(inside, field, &mut recalled, found)?;
+            self.field(&mut inner, field, found)?;
         }
         Ok(())
     }
 
     /// A message in a scope, with all within it.
     fn message(
-        &self,
+        &mut self,
         scope: &str,
-        message: &MessageDesc,
+        message: &'d MessageDesc,
         found: &mut Found,
     ) -> Result<(), AllocError>
-        ensures { OnOk result (Finds self.now.index.now.occurrences
-            (SeenBy self.now.links.now self.now.file) (references_by_message message.now scope.now)
+        requires { IsCandidate self.old.names.«package» scope.now }
+        ensures same { self.new.names ≡ self.old.names }
+        ensures found { OnOk result (FindsIn self.old.names (references_by_message message.now scope.now)
             found.old found.new) }
     {
         let inner = name_in(self.alloc, scope, message.name.as_str())?;
@@ -176,13 +200,14 @@ impl<'i> Finder<'i> {
     }
 
     fn messages(
-        &self,
+        &mut self,
         scope: &str,
-        messages: &[MessageDesc],
+        messages: &'d [MessageDesc],
         found: &mut Found,
     ) -> Result<(), AllocError>
-        ensures { OnOk result (Finds self.now.index.now.occurrences
-            (SeenBy self.now.links.now self.now.file)
+        requires { IsCandidate self.old.names.«package» scope.now }
+        ensures same { self.new.names ≡ self.old.names }
+        ensures found { OnOk result (FindsIn self.old.names
             (flat_map (λ m. references_by_message m scope.now) messages.now) found.old found.new) }
     {
         for message in messages {
@@ -191,55 +216,56 @@ impl<'i> Finder<'i> {
         Ok(())
     }
 
-    /// A method of the service of this full name, of which names are recalled.
-    fn method<'d>(
-        &self,
-        service: Scope<'d>,
+    /// A method of a service.
+    fn method<'n>(
+        &mut self,
+        service: &mut Spelling<'n>,
         method: &'d MethodDesc,
-        recalled: &mut Vec<Recalled<'d>>,
         found: &mut Found,
     ) -> Result<(), AllocError>
-        requires { AreRecalled self.now.index.now.occurrences
-            (SeenBy self.now.links.now self.now.file) service.text.now recalled.old.items }
-        ensures found { OnOk result (Finds self.now.index.now.occurrences
-            (SeenBy self.now.links.now self.now.file) (references_of_method service.entry.text.now method.now)
-            found.old found.new) }
-        ensures recalled { OnOk result (AreRecalled self.now.index.now.occurrences
-            (SeenBy self.now.links.now self.now.file) service.entry.text.now recalled.new.items) }
+    where
+        'd: 'n,
+        requires { IsSpelling self.old.names service.old }
+        ensures same { self.new.names ≡ self.old.names }
+        ensures scope { service.new.scope.now ≡ service.old.scope.now }
+        ensures found { OnOk result (FindsIn self.old.names
+            (references_of_method service.old.scope.now method.now) found.old found.new) }
+        ensures ready { OnOk result (IsSpelling self.old.names service.new) }
     {
         let want = Want::MessageOnly;
-        self.reference(service, &method.input, want, &[], recalled, found)?;
-        self.reference(service, &method.output, want, &[], recalled, found)
+        self.reference(service, &method.input, want, &[], found)?;
+        self.reference(service, &method.output, want, &[], found)
     }
 
     /// A service in a scope.
     fn service(
-        &self,
+        &mut self,
         scope: &str,
-        service: &ServiceDesc,
+        service: &'d ServiceDesc,
         found: &mut Found,
     ) -> Result<(), AllocError>
-        ensures { OnOk result (Finds self.now.index.now.occurrences
-            (SeenBy self.now.links.now self.now.file) (references_of_service scope.now service.now)
+        requires { IsCandidate self.old.names.«package» scope.now }
+        ensures same { self.new.names ≡ self.old.names }
+        ensures found { OnOk result (FindsIn self.old.names (references_of_service scope.now service.now)
             found.old found.new) }
     {
         let full = name_in(self.alloc, scope, service.name.as_str())?;
-        let inside = Scope::new(full.as_str());
-        let mut recalled = Vec::new(self.alloc);
+        let mut inside = Spelling::new(self.alloc, full.as_str(), self.names.package())?;
         for method in service.methods.as_slice() {
-            self.method(inside, method, &mut recalled, found)?;
+            self.method(&mut inside, method, found)?;
         }
         Ok(())
     }
 
     fn services(
-        &self,
+        &mut self,
         scope: &str,
-        services: &[ServiceDesc],
+        services: &'d [ServiceDesc],
         found: &mut Found,
     ) -> Result<(), AllocError>
-        ensures { OnOk result (Finds self.now.index.now.occurrences
-            (SeenBy self.now.links.now self.now.file)
+        requires { IsCandidate self.old.names.«package» scope.now }
+        ensures same { self.new.names ≡ self.old.names }
+        ensures found { OnOk result (FindsIn self.old.names
             (flat_map (references_of_service scope.now) services.now) found.old found.new) }
     {
         for service in services {
@@ -249,9 +275,9 @@ impl<'i> Finder<'i> {
     }
 
     /// A file, whose package is the scope of what stands at its top.
-    pub(crate) fn file(&self, file: &FileDesc, found: &mut Found) -> Result<(), AllocError>
-        ensures { OnOk result (Finds self.now.index.now.occurrences
-            (SeenBy self.now.links.now self.now.file) (references file.now) found.old found.new) }
+    pub(crate) fn file(&mut self, file: &'d FileDesc, found: &mut Found) -> Result<(), AllocError>
+        requires { self.old.names.«package» ≡ file_scope file.now.«package» }
+        ensures { OnOk result (FindsIn self.old.names (references file.now) found.old found.new) }
     {
         let scope = file.scope();
         self.messages(scope, file.messages.as_slice(), found)?;

@@ -7,6 +7,7 @@ mod filling;
 mod finder;
 mod found;
 mod meaning;
+mod names;
 mod recalled;
 mod typing;
 

@@ -7,7 +7,7 @@ use proto_names::FoundType;
 use std::alloc::AllocError;
 
 /// A name as it is spelled, and the type that it means, if any.
-#[derive(Drop)]
+#[derive(Clone, Copy)]
 pub(crate) struct Recalled<'d> {
     pub(crate) spelled: &'d str,
     pub(crate) found: Option<FoundType<'d>>,

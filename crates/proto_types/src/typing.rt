@@ -18,12 +18,22 @@ use crate::filling::fill_file;
 use crate::finder::Finder;
 use crate::found::Found;
 use crate::meaning::NamedType;
+use crate::names::FileNames;
 use proto_base::{FileError, ONLY_STEP};
 use proto_desc::file::FileDesc;
 use proto_links::{FileId, Links};
 use proto_names::NameIndex;
 use std::alloc::Global;
 use std::collections::VecDeque;
+
+/// How many fields the messages of a file have, without those inside them.
+fn count_fields(desc: &FileDesc) -> usize {
+    let mut count: usize = 0;
+    for message in desc.messages.as_slice() {
+        count = count.saturating_add(message.fields.len());
+    }
+    count
+}
 
 /// What each name of a type that a file spells means, in the order in which the file names them, among the names that the
 /// file sees.
@@ -47,12 +57,8 @@ pub fn resolve_types(
         × IsLeast (TypesBreak index.now.occurrences (SeenBy links.now file) desc.now)
         (Some f.spot))) }
 {
-    let finder = Finder {
-        alloc,
-        index,
-        links,
-        file,
-    };
+    let names = FileNames::new(alloc, index, links, file, desc.scope(), count_fields(desc))?;
+    let mut finder = Finder { alloc, names };
     let mut found = Found::new(alloc);
     finder.file(desc, &mut found)?;
     match found.fault {

@@ -4,14 +4,24 @@ use Rattle.proto_types.proofs.finder.Finder.meaning.Goals as goal
 
 pub returns-in-Some-clause-meaning : goal.returns-in-Some-clause-meaning
 returns-in-Some-clause-meaning c =
+    let inner = c.args.inner.now in
     let is = rw c.deref.ensures.value at (sym c.in-Some.ensures) in
-    let named = recalled_type _ _ c.args.scope.text.now c.args.text.now c.args.recalled.now.items c.in-Some.one.now
-    c.requires is in
+    let named = recalled_type _ _ inner.scope.now c.args.text.now inner.recalled.items c.in-Some.one.now
+    c.requires.recalled is in
     IfOk-weaker c.meaning_by.result _ _ (λ m by. meaning_by _ _ _ _ _ _ _ _ m named by) c.meaning_by.ensures
 
 pub returns-clause-meaning : goal.returns-clause-meaning
-returns-clause-meaning c = meaning_by _ _ _ _ _ _ _ _ _ c.find_type-found.ensures c.in_ok-meaning.ensures
+returns-clause-meaning c =
+    let named = c.find-found.ensures.found c.args.inner.now.scope.now c.requires.inside c.requires.around in
+    meaning_by _ _ _ _ _ _ _ _ _ named c.in_ok-meaning.ensures
 
-pub returns-clause-recalled : goal.returns-clause-recalled
-returns-clause-recalled c = recalled_more _ _ _ _ c.args.recalled.now.items c.remember.new.recalled.items c.requires
-    c.find_type-found.ensures c.in_ok-remember.ensures
+pub returns-clause-ready : goal.returns-clause-ready
+returns-clause-ready c =
+    let inner = c.args.inner.now in
+    let named = c.find-found.ensures.found inner.scope.now c.requires.inside c.requires.around in
+    record {
+      inside = c.requires.inside;
+      around = c.requires.around;
+      recalled = recalled_more _ _ inner.scope.now _ inner.recalled.items c.remember.new.recalled.items
+          c.requires.recalled named c.in_ok-remember.ensures;
+    }

@@ -1,10 +1,11 @@
-use Rattle.proto_types.proofs.Common.{take, flat_map, SeenBy, AreRecalled, references_of_method, Finds}
+use Rattle.proto_types.proofs.Common.{take, ◌≡◌, flat_map, references_of_method, FindsIn, IsSpelling}
 use Rattle.proto_types.proofs.finder.Finder.service.Given as goal
 
 abbrev pub invariant-loop-method : goal.invariant-loop-method
 invariant-loop-method l = record {
-  so_far : Finds l.self.index.now.occurrences (SeenBy l.self.links.now l.self.file)
-      (flat_map (references_of_method l.inside.text.now) (take l.method-index l.method-items)) l.initial.found l.found;
-  recalled : AreRecalled l.self.index.now.occurrences (SeenBy l.self.links.now l.self.file) l.inside.text.now
-      l.recalled.items;
+  so_far : FindsIn l.initial.self.names (flat_map (references_of_method l.initial.inside.scope.now)
+      (take l.method-index l.method-items)) l.initial.found l.found;
+  ready : IsSpelling l.initial.self.names l.inside;
+  scope : l.inside.scope.now ≡ l.initial.inside.scope.now;
+  same : l.self.names ≡ l.initial.self.names;
 }

@@ -1,0 +1,13 @@
+use Rattle.proto_names.proofs.Common.{IsCandidate, length}
+use Rattle.proto_names.proofs.Listing.{AreScopesTo}
+use Rattle.proto_names.specs.Around.{texts_of}
+use Rattle.proto_names.proofs.scopes.Scopes.inside.Given as goal
+
+abbrev pub invariant-loop-inner : goal.invariant-loop-inner
+invariant-loop-inner l = record {
+  listed : AreScopesTo l.text l.inner.text.now (texts_of l.scopes.items);
+  left : IsCandidate l.outside l.inner.text.now;
+}
+
+abbrev pub decreases-loop-inner : goal.decreases-loop-inner
+decreases-loop-inner l = length l.inner.text.now

@@ -1,0 +1,49 @@
+//! A scope with those around it, as a list.
+
+ghost use Rattle.std.specs.Prelude.{IfOk};
+ghost use Rattle.proto_names.specs.Around.{AreScopes, IsNone};
+ghost use Rattle.proto_names.specs.Scopes.{IsCandidate};
+
+use crate::scope::Scope;
+use std::alloc::{AllocError, Global};
+use std::marker::Model;
+
+/// Scopes, each of which stands in the next one. Contracts see them as their full names.
+#[derive(Drop)]
+pub struct Scopes<'s> {
+    pub(crate) scopes: Vec<Scope<'s>>,
+}
+
+impl<'s> Model for Scopes<'s> {
+    ghost use Rattle.std.specs.Prelude.{List, ℕ};
+    ghost use Rattle.proto_names.specs.Around.{texts_of};
+
+    ghost Value = { List (List ℕ) };
+
+    ghost view = { λ all. texts_of all.scopes.items };
+}
+
+impl<'s> Scopes<'s> {
+    /// The scope of a full name, and those around it that stand in another one around it.
+    pub fn inside(alloc: Global, text: &'s str, outside: &str) -> Result<Scopes<'s>, AllocError>
+        requires { IsCandidate outside.now text.now }
+        ensures { IfOk result (AreScopes text.now (λ c. IsCandidate c outside.now)) }
+    {
+        let mut scopes = Vec::new(alloc);
+        let mut inner = Scope::new(text);
+        while inner.text.len() > outside.len() {
+            scopes.push(inner)?;
+            inner = inner.parent();
+        }
+        Ok(Scopes { scopes })
+    }
+
+    /// The scope of a full name, and all around it.
+    pub fn around(alloc: Global, text: &'s str) -> Result<Scopes<'s>, AllocError>
+        ensures { IfOk result (AreScopes text.now IsNone) }
+    {
+        let mut all = Scopes::inside(alloc, text, "")?;
+        all.scopes.push(Scope::top())?;
+        Ok(all)
+    }
+}
