@@ -195,8 +195,8 @@ module _ (os : List Occurrence) (Seen : ℕ → Type 0) (spelled : List ℕ)
     )
 
 -- a name with a leading dot means the same in all scopes
-pub means_anywhere : (os : List Occurrence) (Seen : ℕ → Type 0) (spelled rest scope other full : List ℕ) (what : NameKind)
-    → spelled ≡ 46 ∷ rest → Resolves os Seen scope spelled full what → Resolves os Seen other spelled full what
+pub means_anywhere : (os : List Occurrence) (Seen : ℕ → Type 0) (spelled rest scope other full : List ℕ)
+    (what : NameKind) → spelled ≡ 46 ∷ rest → Resolves os Seen scope spelled full what → Resolves os Seen other spelled full what
 means_anywhere os Seen spelled rest scope other full what is r = record {
   type = r.type;
   means = elim r.means [

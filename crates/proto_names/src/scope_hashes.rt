@@ -21,8 +21,8 @@ pub(crate) struct ScopeHashes {
     ghost columns: { slots ≤ columns_of bits },
 }
 
-/// How many slots there are for each scope. A slot in eight is set then, and all of them take little of the processor's memory.
-const SLOTS_OF_A_SCOPE: usize = 8;
+/// How many slots there are for each scope. Few are set then, and all of them take little of the processor's memory.
+const SLOTS_OF_A_SCOPE: usize = 16;
 
 /// How many of the names are scopes'.
 fn count_scopes(names: &Names) -> usize

@@ -77,7 +77,8 @@ module _ (os : List Occurrence) (Seen : ℕ → Type 0) where
         ∙ get_or-set_same slots k (Some one) (Some r) (omega (arith, low, same, length-set slots k (Some one))) in
         let is_one : r ≡ one = cc in
         rw is_one is)
-    | inr other ↦ (let apart : j ≢ k = (λ e. elim other [ inl l ↦ omega (arith, l, e) | inr l ↦ omega (arith, l, e) ]) in
+    | inr other ↦ (let apart : j ≢ k =
+        (λ e. elim other [ inl l ↦ omega (arith, l, e) | inr l ↦ omega (arith, l, e) ]) in
         kept r (
           j,
           omega (arith, low, length-set slots k (Some one)),
@@ -86,8 +87,8 @@ module _ (os : List Occurrence) (Seen : ℕ → Type 0) where
   ]
 
 -- a name that means the same in another scope is found there
-pub found_outside : (os : List Occurrence) (Seen : ℕ → Type 0) (scope outside spelled : List ℕ) (found : Option FoundType)
-    → ((full : List ℕ) (what : NameKind)
+pub found_outside : (os : List Occurrence) (Seen : ℕ → Type 0) (scope outside spelled : List ℕ)
+    (found : Option FoundType) → ((full : List ℕ) (what : NameKind)
     → Resolves os Seen outside spelled full what ↔ Resolves os Seen scope spelled full what)
     → IsFound os Seen outside spelled found → IsFound os Seen scope spelled found
 found_outside os Seen scope outside spelled None same none = λ full what r. none full what ((same full what).1 r)

@@ -19,7 +19,8 @@ pub finds_next : {X : Type 0} {os : List Occurrence} {Seen : ℕ → Type 0} {a 
     (xs : List X) (i : ℕ) (x : X) → i < length xs → x ≡ get_or xs i x → Finds os Seen (flat_map f (take i xs)) a b
     → Finds os Seen (f x) b c → Finds os Seen (flat_map f (take (i + 1) xs)) a c
 finds_next f xs i x low at h k =
-    rw (take_more xs i x low ∙ ap (λ z. take i xs ++ z ∷ []) (sym at)) (rw flat_map-append (rw append-nil (finds_both h k)))
+    rw (take_more xs i x low ∙ ap (λ z. take i xs ++ z ∷ []) (sym at))
+    (rw flat_map-append (rw append-nil (finds_both h k)))
 
 pub finds_one : (os : List Occurrence) (Seen : ℕ → Type 0) (r : Reference) (m : Meaning) (old new : Found)
     → IsMeaning os Seen r m → Adds m old new → Finds os Seen (r ∷ []) old new

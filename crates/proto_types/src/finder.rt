@@ -165,6 +165,9 @@ impl<'i, 'd> Finder<'i, 'd> {
         ensures found { OnOk result (FindsIn self.old.names
             (flat_map (references_of_field scope.now) fields.now) found.old found.new) }
     {
+        if fields.is_empty() {
+            return Ok(());
+        }
         let mut inner = Spelling::new(self.alloc, scope, self.names.package())?;
         for field in fields {
             self.field(&mut inner, field, found)?;

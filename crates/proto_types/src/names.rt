@@ -1,5 +1,5 @@
-//! What names of types mean in a file. Names that are looked up in the file's package are kept, since most of a file's names
-//! of types are spelled in more than one of its messages.
+//! What names of types mean in a file. Names that are looked up in the file's package are kept, since most of a file's
+//! names of types are spelled in more than one of its messages.
 
 ghost use Rattle.std.specs.Prelude.{◌≡◌, ◌<◌, ◌≤◌, List, ℕ, IfOk};
 ghost use Rattle.proto_links.specs.Linked.{count_of};
@@ -24,7 +24,8 @@ pub(crate) struct FileNames<'i, 'd> {
     package: &'d str,
     /// The package and the scopes around it.
     around: Scopes<'d>,
-    /// Names with what they mean in the package, each in the slot of its hash. One more takes the place of the one there.
+    /// Names with what they mean in the package, each in the slot of its hash. One more takes the place of the one
+    /// there.
     slots: Vec<Option<Recalled<'d>>>,
 }
 
@@ -104,8 +105,8 @@ impl<'i, 'd> FileNames<'i, 'd> {
         found
     }
 
-    /// The type that a name means in a scope, if it means one. The scopes are this one and those around it that stand in
-    /// the package.
+    /// The type that a name means in a scope, if it means one. The scopes are this one and those around it that stand
+    /// in the package.
     pub(crate) fn find<'n>(
         &mut self,
         scopes: &Scopes<'n>,

@@ -21,16 +21,29 @@ use crate::meaning::NamedType;
 use crate::names::FileNames;
 use proto_base::{FileError, ONLY_STEP};
 use proto_desc::file::FileDesc;
+use proto_desc::message::MessageDesc;
+use proto_desc::service::ServiceDesc;
 use proto_links::{FileId, Links};
 use proto_names::NameIndex;
 use std::alloc::Global;
 use std::collections::VecDeque;
 
-/// How many fields the messages of a file have, without those inside them.
-fn count_fields(desc: &FileDesc) -> usize {
+/// How many fields messages have, with those of the messages inside them.
+fn count_fields(messages: &[MessageDesc]) -> usize {
     let mut count: usize = 0;
-    for message in desc.messages.as_slice() {
-        count = count.saturating_add(message.fields.len());
+    for message in messages {
+        count = count
+            .saturating_add(message.fields.len())
+            .saturating_add(count_fields(message.nested.as_slice()));
+    }
+    count
+}
+
+/// How many methods services have.
+fn count_methods(services: &[ServiceDesc]) -> usize {
+    let mut count: usize = 0;
+    for service in services {
+        count = count.saturating_add(service.methods.len());
     }
     count
 }
@@ -57,7 +70,10 @@ pub fn resolve_types(
         × IsLeast (TypesBreak index.now.occurrences (SeenBy links.now file) desc.now)
         (Some f.spot))) }
 {
-    let names = FileNames::new(alloc, index, links, file, desc.scope(), count_fields(desc))?;
+    let count = count_fields(desc.messages.as_slice()).saturating_add(count_methods(
+        desc.services.as_slice(),
+    ));
+    let names = FileNames::new(alloc, index, links, file, desc.scope(), count)?;
     let mut finder = Finder { alloc, names };
     let mut found = Found::new(alloc);
     finder.file(desc, &mut found)?;

@@ -32,7 +32,8 @@ returns-in_err-inner-in-None c scope are =
     at (strip_prefix_char 46 spelled c.strip_prefix.result c.strip_prefix.ensures.cases (lit< tt)) in
     let none = subst (λ (xs : List (List ℕ)). NoneDecides os Seen xs spelled)
     (ap texts_of c.deref.ensures.value ∙ c.scopes.view_is) c.in_err-inner-in-None.ensures in
-    rw c.from_residual-in_err-inner-in-None.ensures (found_nowhere os Seen spelled relative scope c.args.scopes.now are none)
+    rw c.from_residual-in_err-inner-in-None.ensures
+    (found_nowhere os Seen spelled relative scope c.args.scopes.now are none)
 
 pub returns-in_ok-inner-in-None : goal.returns-in_ok-inner-in-None
 returns-in_ok-inner-in-None c scope are =
@@ -44,6 +45,7 @@ returns-in_ok-inner-in-None c scope are =
     at (strip_prefix_char 46 spelled c.strip_prefix.result c.strip_prefix.ensures.cases (lit< tt)) in
     let first = subst (λ (xs : List (List ℕ)). IsFirstDecided os Seen xs spelled inner)
     (ap texts_of c.deref.ensures.value ∙ c.scopes.view_is) c.in_ok-inner-in-None.ensures.0 in
-    let decides = decision_decides os Seen inner spelled c.in_ok-inner-in-None.decision c.in_ok-inner-in-None.ensures.1 in
+    let decides = decision_decides os Seen inner spelled c.in_ok-inner-in-None.decision
+    c.in_ok-inner-in-None.ensures.1 in
     found_in os Seen spelled relative scope inner c.type_in.result
     (first_innermost os Seen scope spelled inner IsNone c.args.scopes.now are first decides) c.type_in.ensures

@@ -14,7 +14,8 @@ invariant_of-result c =
     let bytes = c.as_bytes.result.now in
     let k = c.if-is_empty.start in
     let cut = take_all (length bytes - k) (drop k bytes) (omega (arith, length-drop k bytes)) in
-    let whole : scoped outer [] ++ take (length bytes - k) (drop k bytes) ≡ s = rw (cut, start, c.as_bytes.ensures.value)
+    let whole : scoped outer [] ++ take (length bytes - k) (drop k bytes) ≡ s =
+    rw (cut, start, c.as_bytes.ensures.value)
     (around_prefix outer s c.parent-text.ensures.candidate c.parent-text.ensures.shorter) in
     let rolling = c.without_byte-rolling.ensures (rolling_hash s) (rolling_below s)
     (c.args.self.hashed ∙ dotted_hash s c.requires) in

@@ -20,7 +20,8 @@ loop-method-preserved c =
     let so_far = c.loop-method.invariant in
     let next = c.in_ok-method.ensures in
     record {
-      so_far = finds_next (references_of_method c.in_ok-inside.inside.scope.now) c.as_slice-method-items.result.now c.loop-method.method-index
+      so_far = finds_next (references_of_method c.in_ok-inside.inside.scope.now) c.as_slice-method-items.result.now
+          c.loop-method.method-index
           c.method-item.result c.loop-method-test.true c.method-item.is so_far.so_far
           (rw (so_far.same, so_far.scope) at next.found);
       ready = rw so_far.same at next.ready;
