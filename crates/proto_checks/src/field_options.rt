@@ -123,7 +123,7 @@ pub(crate) fn field_options_fault(
     let Some(options) = &declarator.options else {
         return Ok(None);
     };
-    let on_field = bracketed_fault(can_be_packed, is_wide_integer, options);
+    let on_field = bracketed_fault(can_be_packed, is_wide_integer, options.get());
     let own = bracketed_settings_fault(alloc, Element::Field, &declarator.options)?;
     Ok(least_of(&[on_field, own]))
 }

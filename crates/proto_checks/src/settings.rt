@@ -9,6 +9,7 @@ ghost use Rattle.proto_checks.specs.Options.{SettingsBreak};
 
 use crate::options::{Judged, judge, setting_fault, settings_fault};
 use proto_base::Spot;
+use proto_base::boxed::Boxed;
 use proto_desc::rules::Element;
 use proto_options::Item;
 use proto_tree::{Options, Setting};
@@ -77,14 +78,15 @@ fn put_bracketed<'s>(
 pub(crate) fn bracketed_settings_fault(
     alloc: Global,
     element: Element,
-    options: &Option<Options>,
+    options: &Option<Boxed<Options>>,
 ) -> Result<Option<Spot>, AllocError>
     ensures { IfOk result (λ first. IsLeast
         (SettingsBreak element (bracketed options.now)) first) }
 {
-    let Some(listed) = options else {
+    let Some(options) = options else {
         return Ok(None);
     };
+    let listed = options.get();
     // Most stand alone, and so set nothing twice.
     if listed.settings.rest.as_slice().is_empty() {
         return Ok(setting_fault(element, &listed.settings.first));

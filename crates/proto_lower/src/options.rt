@@ -7,6 +7,7 @@ ghost use Rattle.proto_options.specs.Options.{bracketed, value_of};
 ghost use Rattle.proto_lower.specs.Options.{option_by, options_of, json_name_by};
 
 use crate::names::json_text;
+use proto_base::boxed::Boxed;
 use proto_base::row::Row;
 use proto_base::text::Text;
 use proto_desc::options::{OptionDescriptor, OptionValue};
@@ -78,7 +79,7 @@ fn put_option<'s>(
 pub(crate) fn field_json_name<'s>(
     alloc: Global,
     name: &'s str,
-    options: &Option<Options<'s>>,
+    options: &Option<Boxed<Options<'s>>>,
 ) -> Result<Text<'s>, AllocError>
     ensures { IfOk result (λ json. json ≡ json_name_by (bracketed options.now) name.now) }
 {
@@ -90,11 +91,11 @@ pub(crate) fn field_json_name<'s>(
     json_text(alloc, name)
 }
 
-fn bracketed_count(options: &Option<Options>) -> usize
+fn bracketed_count(options: &Option<Boxed<Options>>) -> usize
     ensures { result ≡ 0 → bracketed options.now ≡ [] }
 {
     match options {
-        Some(options) => options.settings.rest.len().saturating_add(1),
+        Some(options) => options.get().settings.rest.len().saturating_add(1),
         None => 0,
     }
 }
@@ -103,7 +104,7 @@ fn bracketed_count(options: &Option<Options>) -> usize
 pub(crate) fn bracketed_options<'s>(
     alloc: Global,
     element: Element,
-    options: &Option<Options<'s>>,
+    options: &Option<Boxed<Options<'s>>>,
 ) -> Result<Row<OptionDescriptor<'s>>, AllocError>
     ensures { IfOk result (λ set. set ≡ options_of element (bracketed options.now)) }
 {

@@ -4,6 +4,7 @@ ghost use Rattle.std.specs.Prelude.{◌≡◌, flat_map};
 ghost use Rattle.std.specs.Option.{option_copied, option_to_list};
 ghost use Rattle.proto_options.specs.Options.{is_setting, first_setting, bracketed, file_setting, message_setting, oneof_setting, enum_setting, service_setting, rpc_setting};
 
+use proto_base::boxed::Boxed;
 use proto_tree::text::simple_name;
 use proto_tree::{
     EnumItem, MessageItem, OneofItem, Options, RpcItem, ServiceItem, Setting, Statement,
@@ -100,7 +101,7 @@ pub fn is_setting(setting: &Setting, word: &str) -> bool
 
 /// The first among the options of a field or of an enum value.
 pub fn first_bracketed<'t, 's>(
-    options: &'t Option<Options<'s>>,
+    options: &'t Option<Boxed<Options<'s>>>,
     word: &str,
 ) -> Option<&'t Setting<'s>>
     ensures { option_copied result ≡ first_setting word.now (bracketed options.now) }
@@ -108,7 +109,7 @@ pub fn first_bracketed<'t, 's>(
     let Some(options) = options else {
         return None;
     };
-    for listed in options.settings.iter() {
+    for listed in options.get().settings.iter() {
         if is_setting(listed, word) {
             return Some(listed);
         }

@@ -14,7 +14,7 @@ pub struct EnumValue<'s> {
     pub name: Name<'s>,
     pub equals: Span,
     pub number: SignedNumber,
-    pub options: Option<Options<'s>>,
+    pub options: Option<Boxed<Options<'s>>>,
     pub semicolon: Span,
 }
 

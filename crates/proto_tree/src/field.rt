@@ -4,6 +4,7 @@ use crate::literal::NumberLiteral;
 use crate::name::{Name, TypeName};
 use crate::option::Options;
 use proto_base::Span;
+use proto_base::boxed::Boxed;
 use proto_base::scalar_type::ScalarType;
 
 /// The label of a field.
@@ -26,7 +27,7 @@ pub struct Declarator<'s> {
     pub name: Name<'s>,
     pub equals: Span,
     pub number: NumberLiteral,
-    pub options: Option<Options<'s>>,
+    pub options: Option<Boxed<Options<'s>>>,
     pub semicolon: Span,
 }
 

@@ -81,6 +81,23 @@ impl<'s, 't> Parser<'s, 't> {
     }
 }
 
+/// The same, behind a pointer.
+impl<'s, T: Parse<'s>> Parse<'s> for Boxed<T> {
+    ghost rule = { T.rule };
+
+    ghost tree = { T.tree };
+
+    fn parse(parser: &mut Parser<'s, '_>) -> Result<Self, Stop> {
+        parser.boxed()
+    }
+}
+
+impl<'s, T: Peek<'s>> Peek<'s> for Boxed<T> {
+    fn is_next(parser: &Parser<'s, '_>) -> bool {
+        T::is_next(parser)
+    }
+}
+
 /// One, if the next token begins it.
 impl<'s, T: Peek<'s>> Parse<'s> for Option<T> {
     ghost rule = { Optional T.rule };

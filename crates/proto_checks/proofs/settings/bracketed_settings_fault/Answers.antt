@@ -6,7 +6,7 @@ use Rattle.proto_checks.proofs.settings.bracketed_settings_fault.Goals as goal
 pub returns-then-is_empty : goal.returns-then-is_empty
 returns-then-is_empty c =
     let alone : c.as_slice.result.now ≡ [] = grind (arith, common_steps) in
-    rw (c.in-Some.is, ← c.as_slice.ensures, alone, c.setting_fault.ensures) (one_least _ _)
+    rw (c.in-Some.is, ← c.get-listed.ensures, ← c.as_slice.ensures, alone, c.setting_fault.ensures) (one_least _ _)
 
 pub returns : goal.returns
 returns c = IfOk-weaker c.settings_fault.result _ _
