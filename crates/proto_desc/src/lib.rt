@@ -3,6 +3,7 @@
 //! The standard is `descriptor.proto`.
 #![tactic(auto)]
 
+pub mod absolute_name;
 mod declared_name;
 pub mod enumeration;
 pub mod field;

@@ -1,5 +1,6 @@
 //! Names of types (`FieldDescriptorProto.type_name`, language guide, "Packages and Name Resolution").
 
+use crate::absolute_name::AbsoluteName;
 use proto_base::Place;
 use proto_base::text::Text;
 
@@ -14,7 +15,13 @@ pub enum TypeKind {
 #[derive(Drop)]
 pub enum TypeReference<'s> {
     /// As the source spells it, with its dots, at its first token.
-    Spelled { text: Text<'s>, place: Place },
-    /// The full name behind a leading dot.
-    Resolved { full_name: Text<'s>, kind: TypeKind },
+    Spelled {
+        text: Text<'s>,
+        place: Place,
+    },
+    /// By its full name.
+    Resolved {
+        full_name: AbsoluteName,
+        kind: TypeKind,
+    },
 }

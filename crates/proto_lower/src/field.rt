@@ -6,8 +6,10 @@ ghost use Rattle.proto_lower.specs.Fields.{described, label_of, is_optional, fie
 
 use crate::names::entry_name;
 use crate::options::{bracketed_options, field_json_name};
+use crate::shared_scope::SharedScope;
 use crate::type_name::field_kind;
 use proto_base::text::Text;
+use proto_desc::absolute_name::AbsoluteName;
 use proto_desc::field::{FieldDesc, FieldKind, FieldLabel};
 use proto_desc::rules::Element;
 use proto_desc::type_name::{TypeKind, TypeReference};
@@ -99,13 +101,14 @@ pub(crate) fn inner_name(alloc: Global, scope: &str, name: &str) -> Result<Strin
 fn put_map<'s>(
     alloc: Global,
     out: &mut Vec<FieldDesc<'s>>,
-    full: &str,
+    message: &mut SharedScope,
     map: &MapField<'s>,
 ) -> Result<(), AllocError>
-    ensures { OnOk result (out.new.items ≡ out.old.items ++ map_described full.now map.now ∷ []) }
+    ensures same { message.new ≡ message.old }
+    ensures put { OnOk result (out.new.items ≡ out.old.items ++ map_described message.old map.now ∷ []) }
 {
     let entry = entry_name(alloc, map.declarator.name.text)?;
-    let full_name = Text::owned(inner_name(alloc, full, entry.as_str())?);
+    let full_name = AbsoluteName::new(message.shared(alloc)?, entry);
     let kind = TypeKind::Message;
     let field_type = FieldKind::Named(TypeReference::Resolved { full_name, kind });
     put_described(
@@ -186,6 +189,7 @@ pub(crate) fn put_fields<'s>(
     requires { real ≤ length items.now }
     ensures { OnOk result (out.new.items ≡ out.old.items ++ fields_from full.now 0 real items.now) }
 {
+    let mut message = SharedScope::new(full);
     let mut next_real = 0;
     let mut next_made = real;
     for item in items {
@@ -197,7 +201,7 @@ pub(crate) fn put_fields<'s>(
                     next_made += 1;
                 }
             }
-            MessageItem::Map(map) => put_map(alloc, out, full, map.get())?,
+            MessageItem::Map(map) => put_map(alloc, out, &mut message, map.get())?,
             MessageItem::Oneof(oneof) => {
                 put_members(alloc, out, oneof.get().items.as_slice(), next_real)?;
                 next_real += 1;

@@ -13,6 +13,7 @@ mod oneof;
 mod options;
 mod reserved;
 mod service;
+mod shared_scope;
 mod type_name;
 
 pub use file::lower;

@@ -14,6 +14,6 @@ pub use Rattle.proto_names.specs.SeenAlike.{AreSeenAlike, IsSeen}
 pub use Rattle.proto_types.specs.Recalling.{AreKept, AreRecalled, IsMeaningBy, IsSpelling, Remembers}
 pub use Rattle.proto_types.specs.References.{Reference, ReferenceBreaks, reference_to, field_scope, references_of_field, references_step, references_by_message, TypesBreak, references_of_method, references_of_service}
 pub use Rattle.proto_types.specs.Sight.{Sight}
-pub use Rattle.proto_types.specs.Steps.{FindsIn, IsMeaning, IsNaming, MeansIn, IsPackedFault, SetsPacked, type_kind_of, Adds, AreFilled, AreFound, Finds, IsFilled, Puts}
+pub use Rattle.proto_types.specs.Steps.{FindsIn, IsMeaning, IsNaming, MeansIn, IsPackedFault, SetsPacked, type_kind_of, behind_dot, Adds, AreFilled, AreFound, Finds, IsFilled, Puts}
 pub use Rattle.proto_types.specs.Typed.{named_by, IsTypedField, IsTypedMessage, AreTypedMessages, IsTypedMethod, IsTypedService, IsTypedIn, IsTyped, IsTypedBody, Means}
 pub use Rattle.proto_types.specs.declared.meaning.Meaning.{Meaning}

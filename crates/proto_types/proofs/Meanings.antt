@@ -1,5 +1,5 @@
 -- The faults of one reference, by what its name means.
-use Rattle.proto_types.proofs.Common.{arith, ◌≡◌, ℕ, List, inl, inr, Option, Some, None, least_none, least_same, least_one, Occurrence, IsType, Resolves, ResolvesNowhere, Reference, ReferenceBreaks, IsMeaning, IsNaming, IsPackedFault, SetsPacked, type_kind_of, Meaning, named_by}
+use Rattle.proto_types.proofs.Common.{arith, ◌≡◌, ℕ, List, inl, inr, Option, Some, None, least_none, least_same, least_one, Occurrence, IsType, Resolves, ResolvesNowhere, Reference, ReferenceBreaks, IsMeaning, IsNaming, IsPackedFault, SetsPacked, type_kind_of, Meaning, named_by, scoped, behind_dot, refl, [], ◌∷◌, ◌++◌}
 use Rattle.proto_base.specs.declared.kind.Kind.TheVariants as kind
 use Rattle.proto_desc.specs.declared.name_kind.NameKind.{NameKind}
 use Rattle.proto_desc.specs.declared.name_kind.NameKind.TheVariants as name_kind
@@ -10,6 +10,11 @@ use Rattle.proto_names.specs.Resolution.IsType.{message, enumeration}
 use Rattle.proto_names.specs.declared.resolve.Want.TheVariants as want
 use Rattle.proto_names.proofs.Unique.{resolves_one}
 use Rattle.proto_types.specs.declared.meaning.Meaning.TheVariants.{Named, Wrong}
+
+-- a name in a scope behind a leading dot is the full name behind one
+pub scoped_behind_dot : (scope name : List ℕ) → behind_dot scope ++ 46 ∷ name ≡ 46 ∷ scoped scope name
+scoped_behind_dot [] name = refl
+scoped_behind_dot (c ∷ cs) name = refl
 
 module _ (os : List Occurrence) (Seen : ℕ → Type 0) where
   -- a name of a message names no enum

@@ -47,8 +47,8 @@ IsMeaningBy wanted (Some t) place options meaning =
     × ((Fits wanted t.kind → ⊥) → meaning ≡ Wrong (spot place kind.TypeNotMessage))
 
 -- a scope in a file's package, with those around it that stand in the package, and what is recalled of it
-pub record IsSpelling (place : Sight) (inner : Spelling) : Type 0 where
-  pub inside : IsCandidate place.«package» inner.scope.now
-  pub around : AreScopes inner.scope.now (λ c. IsCandidate c place.«package») inner.scopes
-  pub recalled : AreRecalled place.index.occurrences (SeenBy place.links place.file) inner.scope.now
+pub record IsSpelling (here : Sight) (inner : Spelling) : Type 0 where
+  pub inside : IsCandidate here.«package» inner.scope.now
+  pub around : AreScopes inner.scope.now (λ c. IsCandidate c here.«package») inner.scopes
+  pub recalled : AreRecalled here.index.occurrences (SeenBy here.links here.file) inner.scope.now
       inner.recalled.items

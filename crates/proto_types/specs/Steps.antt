@@ -1,5 +1,5 @@
 -- Words of private contracts: what a walk over the names of types finds, and what it puts.
-use Rattle.std.specs.Prelude.{◌≡◌, ℕ, Bool, List, [], ◌∷◌, ◌++◌, Option, None, Some, flat_map, string_bytes}
+use Rattle.std.specs.Prelude.{◌≡◌, ℕ, Bool, List, [], ◌∷◌, ◌++◌, Option, None, Some, flat_map}
 use Rattle.std.specs.List.{AllZip}
 use Rattle.proto_base.specs.declared.kind.Kind.TheVariants as kind
 use Rattle.proto_desc.specs.declared.name_kind.NameKind.{NameKind}
@@ -21,6 +21,11 @@ use Rattle.proto_types.specs.declared.found.Found.{Found}
 use Rattle.proto_types.specs.declared.meaning.Meaning.{Meaning}
 use Rattle.proto_types.specs.declared.meaning.Meaning.TheVariants.{Named, Wrong}
 use Rattle.proto_types.specs.declared.meaning.NamedType.{NamedType}
+
+-- a scope's full name behind a leading dot, and nothing of the scope of what stands in no package
+abbrev pub behind_dot : List ℕ → List ℕ
+behind_dot [] = []
+behind_dot (c ∷ cs) = 46 ∷ c ∷ cs
 
 -- of the name of a message or an enum
 abbrev pub type_kind_of : NameKind → TypeKind
@@ -44,7 +49,7 @@ IsPackedFault type_kind.Enum options fault = fault ≡ None
 -- what a full name of a type of this kind is found to be, as the type of a field with these options
 abbrev pub IsNaming : List ℕ → TypeKind → List OptionDescriptor → Meaning → Type 0
 IsNaming full what options (Named t) =
-    IsPackedFault what options None × (string_bytes t.full_name ≡ 46 ∷ full) × (t.kind ≡ what)
+    IsPackedFault what options None × (t.full_name ≡ 46 ∷ full) × (t.kind ≡ what)
 IsNaming full what options (Wrong x) = IsPackedFault what options (Some x)
 
 -- what one reference is found to be
@@ -68,10 +73,10 @@ Finds os Seen rs old new = (before : List Reference) → AreFound os Seen before
 
 -- the same in a file
 abbrev pub MeansIn : Sight → Reference → Meaning → Type 0
-MeansIn place = IsMeaning place.index.occurrences (SeenBy place.links place.file)
+MeansIn here = IsMeaning here.index.occurrences (SeenBy here.links here.file)
 
 abbrev pub FindsIn : Sight → List Reference → Found → Found → Type 0
-FindsIn place = Finds place.index.occurrences (SeenBy place.links place.file)
+FindsIn here = Finds here.index.occurrences (SeenBy here.links here.file)
 
 -- of types that begin with what some references mean, these are taken, and something is made
 abbrev pub Puts : List Occurrence → (ℕ → Type 0) → List Reference → Type 0 → List NamedType → List NamedType → Type 0

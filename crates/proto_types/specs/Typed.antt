@@ -1,5 +1,5 @@
 -- A file with each spelled name of a type resolved, and all else as it was.
-use Rattle.std.specs.Prelude.{◌≡◌, ℕ, List, [], ◌∷◌, string_bytes}
+use Rattle.std.specs.Prelude.{◌≡◌, ℕ, List, [], ◌∷◌}
 use Rattle.std.specs.List.{AllZip}
 use Rattle.proto_desc.specs.DeclaredNames.{scoped, file_scope}
 use Rattle.proto_desc.specs.declared.field.FieldDesc.{FieldDesc}
@@ -30,7 +30,7 @@ named_by type_kind.Enum = name_kind.Enum
 -- a name in a file is that of this type
 abbrev pub Means : List Occurrence → (ℕ → Type 0) → Reference → NamedType → Type 0
 Means os Seen r t =
-    (full : List ℕ) × Resolves os Seen r.scope r.text full (named_by t.kind) × (string_bytes t.full_name ≡ 46 ∷ full)
+    (full : List ℕ) × Resolves os Seen r.scope r.text full (named_by t.kind) × (t.full_name ≡ 46 ∷ full)
 
 -- a resolved name has its leading dot
 abbrev pub IsTyped : List Occurrence → (ℕ → Type 0) → List ℕ → TypeReference → TypeReference → Type 0

@@ -11,7 +11,6 @@ ghost use Rattle.proto_types.specs.Typed.{IsTyped, IsTypedKind, IsTypedField, Is
 
 use crate::meaning::NamedType;
 use proto_base::row::Row;
-use proto_base::text::Text;
 use proto_desc::field::{FieldDesc, FieldKind};
 use proto_desc::file::FileDesc;
 use proto_desc::message::MessageDesc;
@@ -30,10 +29,7 @@ fn fill_reference<'s>(reference: &mut TypeReference<'s>, types: &mut VecDeque<Na
     match reference {
         TypeReference::Spelled { .. } => match types.pop_front() {
             Some(NamedType { full_name, kind }) => {
-                *reference = TypeReference::Resolved {
-                    full_name: Text::owned(full_name),
-                    kind,
-                };
+                *reference = TypeReference::Resolved { full_name, kind };
             }
             None => {}
         },

@@ -10,6 +10,7 @@ ghost use Rattle.proto_types.specs.Sight.{Sight};
 ghost use Rattle.proto_types.specs.Steps.{FindsIn, MeansIn};
 
 use crate::found::Found;
+use crate::known_scopes::KnownScopes;
 use crate::meaning::{Meaning, meaning_of};
 use crate::names::FileNames;
 use crate::recalled::{Recalled, recalled_as, remember};
@@ -26,6 +27,7 @@ use std::alloc::{AllocError, Global};
 /// What a name means of which this was found, where such a type is wanted, with these options.
 fn meaning_by(
     alloc: Global,
+    known: &mut KnownScopes,
     found: Option<FoundType>,
     place: Place,
     want: Want,
@@ -34,7 +36,9 @@ fn meaning_by(
     ensures { IfOk result (IsMeaningBy want found.entry place options.now) }
 {
     let kind = match found {
-        Some(found) if want.allows(found.kind) => return meaning_of(alloc, found, options),
+        Some(found) if want.allows(found.kind) => {
+            return meaning_of(alloc, known, found, options);
+        }
         Some(_) => Kind::TypeNotMessage,
         None => Kind::TypeNotFound,
     };
@@ -70,6 +74,7 @@ impl<'n> Spelling<'n> {
 pub(crate) struct Finder<'i, 'd> {
     pub(crate) alloc: Global,
     pub(crate) names: FileNames<'i, 'd>,
+    pub(crate) known: KnownScopes,
 }
 
 impl<'i, 'd> Finder<'i, 'd> {
@@ -92,10 +97,10 @@ impl<'i, 'd> Finder<'i, 'd> {
         ensures ready { OnOk result (IsSpelling self.old.names inner.new) }
     {
         if let Some(one) = recalled_as(&inner.recalled, text) {
-            return meaning_by(self.alloc, one.found, place, want, options);
+            return meaning_by(self.alloc, &mut self.known, one.found, place, want, options);
         }
         let found = self.names.find(&inner.scopes, text);
-        let meaning = meaning_by(self.alloc, found, place, want, options)?;
+        let meaning = meaning_by(self.alloc, &mut self.known, found, place, want, options)?;
         let one = Recalled {
             spelled: text,
             found,

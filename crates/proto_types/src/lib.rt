@@ -6,6 +6,7 @@
 mod filling;
 mod finder;
 mod found;
+mod known_scopes;
 mod meaning;
 mod names;
 mod recalled;

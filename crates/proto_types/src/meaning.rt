@@ -1,24 +1,26 @@
 //! What one name of a type means, or what is wrong with it.
 
-ghost use Rattle.std.specs.Prelude.{◌≡◌, ◌↔◌, IsTrue, ◌∷◌, IfOk, string_bytes};
+ghost use Rattle.std.specs.Prelude.{◌≡◌, ◌↔◌, IsTrue, ◌∷◌, IfOk};
 ghost use Rattle.proto_desc.specs.DeclaredNames.{scoped};
 ghost use Rattle.proto_base.specs.Least.{IsLeast};
 ghost use Rattle.proto_base.specs.Sets.{Each};
 ghost use Rattle.proto_types.specs.References.{IsPacked};
 ghost use Rattle.proto_types.specs.Steps.{type_kind_of, SetsPacked, IsNaming};
 
+use crate::known_scopes::KnownScopes;
 use proto_base::{Kind, Spot, lesser};
+use proto_desc::absolute_name::AbsoluteName;
 use proto_desc::name_kind::NameKind;
 use proto_desc::options::{OptionDescriptor, OptionValue};
 use proto_desc::type_name::TypeKind;
-use proto_names::{FoundType, push_name};
+use proto_names::FoundType;
 use std::alloc::{AllocError, Global};
 
 /// A type that a file names.
 #[derive(Drop)]
 pub struct NamedType {
     /// Its full name behind a leading dot.
-    pub full_name: String,
+    pub full_name: AbsoluteName,
     pub kind: TypeKind,
 }
 
@@ -76,19 +78,23 @@ fn packed_fault(options: &[OptionDescriptor]) -> Option<Spot>
 }
 
 /// The full name of a name in a scope, behind a leading dot.
-fn absolute(alloc: Global, scope: &str, name: &str) -> Result<String, AllocError>
-    ensures { IfOk result (λ absolute. string_bytes absolute ≡ 46 ∷ scoped scope.now name.now) }
+#[tactic(auto, using(crate::proofs::Meanings::scoped_behind_dot))]
+fn absolute(
+    alloc: Global,
+    known: &mut KnownScopes,
+    scope: &str,
+    name: &str,
+) -> Result<AbsoluteName, AllocError>
+    ensures { IfOk result (λ absolute. absolute ≡ 46 ∷ scoped scope.now name.now) }
 {
-    let room = scope.len().saturating_add(name.len()).saturating_add(2);
-    let mut absolute = String::with_capacity(alloc, room)?;
-    absolute.push_str(".")?;
-    push_name(&mut absolute, scope, name)?;
-    Ok(absolute)
+    let name = String::from_str(alloc, name)?;
+    Ok(AbsoluteName::new(known.shared(scope)?, name))
 }
 
 /// What a name was found to be, as the type of a field with these options.
 pub(crate) fn meaning_of(
     alloc: Global,
+    known: &mut KnownScopes,
     found: FoundType,
     options: &[OptionDescriptor],
 ) -> Result<Meaning, AllocError>
@@ -103,7 +109,7 @@ pub(crate) fn meaning_of(
     match fault {
         Some(fault) => Ok(Meaning::Wrong(fault)),
         None => Ok(Meaning::Named(NamedType {
-            full_name: absolute(alloc, found.scope, found.name)?,
+            full_name: absolute(alloc, known, found.scope, found.name)?,
             kind,
         })),
     }

@@ -17,6 +17,7 @@ ghost use Rattle.proto_types.specs.Typed.{IsTypedFile, Means};
 use crate::filling::fill_file;
 use crate::finder::Finder;
 use crate::found::Found;
+use crate::known_scopes::KnownScopes;
 use crate::meaning::NamedType;
 use crate::names::FileNames;
 use proto_base::{FileError, ONLY_STEP};
@@ -74,7 +75,12 @@ pub fn resolve_types(
         desc.services.as_slice(),
     ));
     let names = FileNames::new(alloc, index, links, file, desc.scope(), count)?;
-    let mut finder = Finder { alloc, names };
+    let known = KnownScopes::new(alloc);
+    let mut finder = Finder {
+        alloc,
+        names,
+        known,
+    };
     let mut found = Found::new(alloc);
     finder.file(desc, &mut found)?;
     match found.fault {

@@ -5,7 +5,7 @@ ghost use Rattle.wire_bytes.specs.Descriptor.{field_desc_bytes, index_field, fla
 
 use crate::backward::{Backward, Payload};
 use crate::descriptor::options::prepend_options;
-use crate::descriptor::type_name::{reference_number, reference_text};
+use crate::descriptor::type_name::reference_number;
 use proto_base::scalar_type::ScalarType;
 use proto_desc::field::{FieldDesc, FieldKind, FieldLabel};
 use std::alloc::AllocError;
@@ -55,7 +55,7 @@ fn prepend_type_name(out: &mut Backward, field_type: &FieldKind) -> Result<(), A
 {
     match field_type {
         FieldKind::Scalar(_) => Ok(()),
-        FieldKind::Named(reference) => out.prepend_field(6, reference_text(reference)),
+        FieldKind::Named(reference) => out.prepend_field(6, reference),
     }
 }
 

@@ -1,17 +1,16 @@
 //! How many bytes a descriptor has at least: those of the names of types in it. Nothing else grows a descriptor far beyond
 //! its source, which spells a type by a short name where the descriptor has the full one.
 
-ghost use Rattle.std.specs.Prelude.{◌≡◌, ◌≤◌, flat_map, length};
-ghost use Rattle.wire_bytes.specs.Descriptor.{file_desc_bytes, message_desc_bytes, reference_text};
+ghost use Rattle.std.specs.Prelude.{◌≤◌, flat_map, length};
+ghost use Rattle.wire_bytes.specs.Descriptor.{file_desc_bytes, message_desc_bytes};
 
 use crate::backward::Payload;
-use crate::descriptor::type_name::reference_text;
+use crate::descriptor::type_name::reference_len;
 use proto_base::row::Row;
 use proto_desc::field::{FieldDesc, FieldKind};
 use proto_desc::file::FileDesc;
 use proto_desc::message::MessageDesc;
 use proto_desc::service::{MethodDesc, ServiceDesc};
-use proto_desc::type_name::TypeReference;
 
 /// What names types.
 trait LeastLen: Payload {
@@ -20,24 +19,18 @@ trait LeastLen: Payload {
         ensures { result ≤ length (Self.bytes self.now) };
 }
 
-fn name_len(reference: &TypeReference) -> usize
-    ensures { result ≡ length (reference_text reference.now) }
-{
-    reference_text(reference).as_str().len()
-}
-
 impl<'s> LeastLen for FieldDesc<'s> {
     fn least_len(&self) -> usize {
         match &self.field_type {
             FieldKind::Scalar(_) => 0,
-            FieldKind::Named(reference) => name_len(reference),
+            FieldKind::Named(reference) => reference_len(reference),
         }
     }
 }
 
 impl<'s> LeastLen for MethodDesc<'s> {
     fn least_len(&self) -> usize {
-        name_len(&self.input).saturating_add(name_len(&self.output))
+        reference_len(&self.input).saturating_add(reference_len(&self.output))
     }
 }
 

@@ -5,7 +5,6 @@ ghost use Rattle.wire_bytes.specs.Descriptor.{method_desc_bytes, service_desc_by
 
 use crate::backward::{Backward, Payload};
 use crate::descriptor::options::prepend_options;
-use crate::descriptor::type_name::reference_text;
 use proto_desc::service::{MethodDesc, ServiceDesc};
 use std::alloc::AllocError;
 
@@ -16,8 +15,8 @@ impl<'s> Payload for MethodDesc<'s> {
         out.prepend_flag(6, self.server_streaming)?;
         out.prepend_flag(5, self.client_streaming)?;
         prepend_options(out, 4, &self.options)?;
-        out.prepend_field(3, reference_text(&self.output))?;
-        out.prepend_field(2, reference_text(&self.input))?;
+        out.prepend_field(3, &self.output)?;
+        out.prepend_field(2, &self.input)?;
         out.prepend_field(1, &self.name)
     }
 }

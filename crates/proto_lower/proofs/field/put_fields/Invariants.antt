@@ -3,6 +3,7 @@ use Rattle.proto_lower.proofs.field.put_fields.Given as goal
 
 abbrev pub invariant-loop-item : goal.invariant-loop-item
 invariant-loop-item l = record {
+  same : l.message ≡ l.full;
   fields : l.out.items ++ fields_from l.full l.next_real l.next_made (drop l.item-index l.items)
       ≡ l.initial.out.items ++ fields_from l.full 0 l.real l.items;
   real_most : l.next_real ≤ l.item-index;
