@@ -31,4 +31,4 @@ pub use Rattle.proto_names.specs.Scopes.{prefixes, IsCandidate}
 pub use Rattle.proto_names.specs.Shares.{IsFirstOf, all_of, AreAllShares, AreInShares, AreSharesOf, IsEarliest, IsSortedOf, share_at, services_in, share_of, table_of, twice_of}
 pub use Rattle.proto_names.specs.Steps.{HasNoType, HasOneIn, IsNoType, IsTypeAmong, fits}
 pub use Rattle.proto_names.specs.declared.entry.Location.{Location}
-pub use Rattle.share_work.proofs.PieceRows.{each_push, get_drop, found_in, get_take, OnOk-all}
+pub use Rattle.share_work.proofs.PieceRows.{each_push, get_drop, found_in, get_take}

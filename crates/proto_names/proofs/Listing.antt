@@ -1,48 +1,39 @@
 -- Lists of scopes that are made from the innermost one outwards.
-use Rattle.proto_names.proofs.Common.{◌≡◌, ◌∙◌, ◌⊎◌, inl, inr, sym, ap, refl, arith, ℕ, ◌<◌, ◌≤◌, List, [], ◌∷◌, ◌++◌, length, cases_lt, cases_order, get_or_append_left, get_or_push, length_push, Option, Some, None, MatchOption, IsCandidate, Occurrence, scoped, Decides, IsAbsolute, IsInnermost, IsType, Resolves, ResolvesNowhere, ◌↔◌}
+use Rattle.proto_names.proofs.Common.{◌≡◌, ◌∙◌, ◌⊎◌, inl, inr, sym, ap, refl, arith, ℕ, ◌<◌, ◌≤◌, List, [], ◌∷◌, ◌++◌, length, cases_lt, cases_order, get_or_append_left, get_or_push, length_push, Option, Some, None, IsCandidate, Occurrence, Decides, IsAbsolute, IsInnermost, Resolves, ResolvesNowhere, ◌↔◌}
 use Rattle.proto_desc.specs.declared.name_kind.NameKind.{NameKind}
 use Rattle.proto_names.proofs.Unique.{candidate_trans, candidate_length, candidates_same, means_nothing, only_innermost}
-use Rattle.proto_names.specs.Around.{AreScopes, IsNone, scope_at}
-use Rattle.proto_names.specs.Found.{IsFound}
-use Rattle.proto_names.specs.Steps.{IsDecision, IsFirstDecided, NoneDecides}
-use Rattle.proto_names.specs.declared.resolve.Decision.{Decision}
-use Rattle.proto_names.specs.declared.resolve.Decision.TheVariants as decision
+use Rattle.proto_names.specs.Around.{AreScopes, IsNoScope, scope_at}
+use Rattle.proto_names.specs.Found.{IsFound, IsFoundInside}
+use Rattle.proto_names.specs.Steps.{IsFirstDecided, IsFoundAmong, IsFoundIn, NoneDecides}
+use Rattle.proto_names.specs.declared.resolve.FoundInside.{FoundInside}
+use Rattle.proto_names.specs.declared.resolve.FoundInside.TheVariants as variant
 use Rattle.proto_names.specs.declared.resolve.FoundType.{FoundType}
 
--- a scope and those around it are listed as far as one that is not, and that has the others around it
-pub record AreScopesTo (scope inner : List ℕ) (scopes : List (List ℕ)) : Type 0 where
-  pub within : IsCandidate inner scope
-  pub around : (k : ℕ) → k < length scopes → IsCandidate (scope_at scopes k) scope
-  pub all : (c : List ℕ) → IsCandidate c scope
-      → ((k : ℕ) × (k < length scopes) × (scope_at scopes k ≡ c)) ⊎ IsCandidate c inner
-  pub falls : (j k : ℕ) → j < k → k < length scopes → length (scope_at scopes k) < length (scope_at scopes j)
-  pub longer : (k : ℕ) → k < length scopes → length inner < length (scope_at scopes k)
-
-pub none_listed : (scope : List ℕ) → AreScopesTo scope scope []
+-- scopes are listed from the innermost one outwards, as far as one that is not, and that has the others around it
+pub none_listed : (scope : List ℕ) → AreScopes scope (λ c. IsCandidate c scope) []
 none_listed scope = record {
-  within = inr (inl refl);
   around = λ k less. absurd (omega (arith, less));
   all = λ c is. inr is;
   falls = λ j k a less. absurd (omega (arith, less));
-  longer = λ k less. absurd (omega (arith, less));
+  outside = λ k c less. absurd (omega (arith, less));
 }
 
--- one more scope is listed
-pub listed_more : (scope inner outer : List ℕ) (scopes : List (List ℕ)) → AreScopesTo scope inner scopes
-    → IsCandidate outer inner → length outer < length inner
-    → ((c : List ℕ) → IsCandidate c inner → (c ≡ inner) ⊎ IsCandidate c outer)
-    → AreScopesTo scope outer (scopes ++ inner ∷ [])
-listed_more scope inner outer scopes to is shorter next =
+-- one more scope is listed, and what is left then
+pub listed_more : (scope inner : List ℕ) (Outside : List ℕ → Type 0) (scopes : List (List ℕ))
+    → AreScopes scope (λ c. IsCandidate c inner) scopes → IsCandidate inner scope
+    → ((c : List ℕ) → Outside c → length c < length inner)
+    → ((c : List ℕ) → IsCandidate c inner → (c ≡ inner) ⊎ Outside c) → AreScopes scope Outside (scopes ++ inner ∷ [])
+listed_more scope inner Outside scopes are within shorter next =
     let last = get_or_push scopes inner [] (length scopes) refl in
     let size = length_push scopes inner in
     let left = λ (k : ℕ) (less : k < length scopes). get_or_append_left scopes (inner ∷ []) [] k less in
+    let longer = λ (k : ℕ) (less : k < length scopes). are.outside k inner less (inr (inl refl)) in
     record {
-      within = candidate_trans outer inner scope is to.within;
       around = λ k less. elim (cases_lt k (length scopes)) [
-        | inl low ↦ rw (left k low) (to.around k low)
-        | inr high ↦ (let same : k ≡ length scopes = omega (arith, less, size, high) in rw (same, last) to.within)
+        | inl low ↦ rw (left k low) (are.around k low)
+        | inr high ↦ (let same : k ≡ length scopes = omega (arith, less, size, high) in rw (same, last) within)
       ];
-      all = λ c h. elim (to.all c h) [
+      all = λ c h. elim (are.all c h) [
         | inl (k, low, at) ↦ inl (k, omega (arith, low, size), left k low ∙ at)
         | inr inside ↦ (elim (next c inside) [
           | inl same ↦ inl (length scopes, omega (arith, size), last ∙ sym same)
@@ -50,61 +41,33 @@ listed_more scope inner outer scopes to is shorter next =
         ])
       ];
       falls = λ j k a less. elim (cases_lt k (length scopes)) [
-        | inl low ↦ rw (left k low, left j (omega (arith, a, low))) (to.falls j k a low)
+        | inl low ↦ rw (left k low, left j (omega (arith, a, low))) (are.falls j k a low)
         | inr high ↦ (let same : k ≡ length scopes = omega (arith, less, size, high) in
-            rw (same, last, left j (omega (arith, a, same))) (to.longer j (omega (arith, a, same))))
+            rw (same, last, left j (omega (arith, a, same))) (longer j (omega (arith, a, same))))
       ];
-      longer = λ k less. elim (cases_lt k (length scopes)) [
-        | inl low ↦ rw (left k low) (omega (arith, to.longer k low, shorter))
-        | inr high ↦ (let same : k ≡ length scopes = omega (arith, less, size, high) in rw (same, last) shorter)
+      outside = λ k c less out. elim (cases_lt k (length scopes)) [
+        | inl low ↦ rw (left k low) (omega (arith, longer k low, shorter c out))
+        | inr high ↦ (let same : k ≡ length scopes = omega (arith, less, size, high) in rw (same, last) (shorter c out))
       ];
     }
 
--- all are listed but those around the last
-pub listed_inside : (scope outside : List ℕ) (scopes : List (List ℕ)) → AreScopesTo scope outside scopes
-    → AreScopes scope (λ c. IsCandidate c outside) scopes
-listed_inside scope outside scopes to = record {
-  around = to.around;
-  all = to.all;
-  falls = to.falls;
-  outside = λ k c less is. omega (arith, to.longer k less, candidate_length c outside is);
-}
-
 -- where a candidate is as long as a scope, it is this scope
-pub met : (scope inner outside : List ℕ) (scopes : List (List ℕ)) → AreScopesTo scope inner scopes
-    → IsCandidate outside inner → length inner ≤ length outside → AreScopesTo scope outside scopes
-met scope inner outside scopes to is reached =
+pub met : (scope inner outside : List ℕ) (scopes : List (List ℕ)) → AreScopes scope (λ c. IsCandidate c inner) scopes
+    → IsCandidate outside inner → length inner ≤ length outside → AreScopes scope (λ c. IsCandidate c outside) scopes
+met scope inner outside scopes are is reached =
     let same : outside ≡ inner = candidates_same outside inner inner is (inr (inl refl))
     (omega (arith, reached, candidate_length outside inner is)) in
-    rw same to
+    rw same are
 
-no_longer : (c : List ℕ) → IsCandidate c [] → [] ≡ c
+no_longer : (c : List ℕ) → IsCandidate c [] → c ≡ []
 no_longer [] is = refl
 no_longer (x ∷ c) is = absurd (omega (arith, candidate_length (x ∷ c) [] is))
 
 -- and with the outermost scope all are listed
 pub listed_around : (scope : List ℕ) (scopes : List (List ℕ)) → AreScopes scope (λ c. IsCandidate c []) scopes
-    → AreScopes scope IsNone (scopes ++ [] ∷ [])
-listed_around scope scopes are =
-    let last = get_or_push scopes [] [] (length scopes) refl in
-    let size = length_push scopes [] in
-    let left = λ (k : ℕ) (less : k < length scopes). get_or_append_left scopes ([] ∷ []) [] k less in
-    record {
-      around = λ k less. elim (cases_lt k (length scopes)) [
-        | inl low ↦ rw (left k low) (are.around k low)
-        | inr high ↦ (let same : k ≡ length scopes = omega (arith, less, size, high) in rw (same, last) (inl refl))
-      ];
-      all = λ c h. elim (are.all c h) [
-        | inl (k, low, at) ↦ inl (k, omega (arith, low, size), left k low ∙ at)
-        | inr inside ↦ inl (length scopes, omega (arith, size), last ∙ no_longer c inside)
-      ];
-      falls = λ j k a less. elim (cases_lt k (length scopes)) [
-        | inl low ↦ rw (left k low, left j (omega (arith, a, low))) (are.falls j k a low)
-        | inr high ↦ (let same : k ≡ length scopes = omega (arith, less, size, high) in
-            rw (same, last, left j (omega (arith, a, same))) (are.outside j [] (omega (arith, a, same)) (inl refl)))
-      ];
-      outside = λ k c less is. absurd is;
-    }
+    → AreScopes scope IsNoScope (scopes ++ [] ∷ [])
+listed_around scope scopes are = listed_more scope [] IsNoScope scopes are (inl refl) (λ c is. absurd is)
+    (λ c is. inl (no_longer c is))
 
 -- the first scope that decides is the innermost one
 pub first_innermost : (os : List Occurrence) (Seen : ℕ → Type 0) (scope spelled c : List ℕ) (Outside : List ℕ → Type 0)
@@ -123,24 +86,24 @@ first_innermost os Seen scope spelled c Outside scopes are first decides = recor
   ];
 }
 
-pub decision_decides : (os : List Occurrence) (Seen : ℕ → Type 0) (c spelled : List ℕ) (d : Decision)
-    → IsDecision os Seen c spelled d → Decides os Seen c spelled
-decision_decides os Seen c spelled (decision.Known what) is = is.0
-decision_decides os Seen c spelled decision.Scope is = is
-
 module _ (os : List Occurrence) (Seen : ℕ → Type 0) (spelled : List ℕ)
     (relative : (rest : List ℕ) → IsAbsolute spelled rest → ⊥) where
   -- what is found in the innermost scope that decides
-  pub found_in : (scope c : List ℕ) (found : Option FoundType) → IsInnermost os Seen scope spelled c
-      → MatchOption found ((what : NameKind) → IsType os Seen (scoped c spelled) what → ⊥)
-      (λ t. (scoped t.scope.now t.name.now ≡ scoped c spelled) × IsType os Seen (scoped c spelled) t.kind)
-      → IsFound os Seen scope spelled found
+  found_in : (scope c : List ℕ) (found : Option FoundType) → IsInnermost os Seen scope spelled c
+      → IsFoundIn os Seen c spelled found → IsFound os Seen scope spelled found
   found_in scope c None inner none =
       λ full what r. none what (rw (only_innermost os Seen scope spelled relative c full inner r.means) at r.type)
   found_in scope c (Some t) inner (same, type) =
       record { means = inr (relative, c, inner, same); type = rw same type }
 
-  pub found_nowhere : (scope : List ℕ) (scopes : List (List ℕ)) → AreScopes scope IsNone scopes
+  -- and so in the first of some scopes
+  pub found_first : (scope : List ℕ) (Outside : List ℕ → Type 0) (scopes : List (List ℕ)) (found : Option FoundType)
+      → AreScopes scope Outside scopes → IsFoundAmong os Seen scopes spelled (variant.Here found)
+      → IsFound os Seen scope spelled found
+  found_first scope Outside scopes found are (c, first, decides, type) =
+      found_in scope c found (first_innermost os Seen scope spelled c Outside scopes are first decides) type
+
+  pub found_nowhere : (scope : List ℕ) (scopes : List (List ℕ)) → AreScopes scope IsNoScope scopes
       → NoneDecides os Seen scopes spelled → ResolvesNowhere os Seen scope spelled
   found_nowhere scope scopes are none full what r = means_nothing os Seen scope spelled relative
       (λ c is decides. elim (are.all c is) [
@@ -157,7 +120,7 @@ module _ (os : List Occurrence) (Seen : ℕ → Type 0) (spelled : List ℕ)
       | inr out ↦ out
     ]
 
-    pub means_outside : (full : List ℕ) (what : NameKind)
+    means_outside : (full : List ℕ) (what : NameKind)
         → Resolves os Seen outside spelled full what ↔ Resolves os Seen scope spelled full what
     means_outside full what = (
       λ r. (record {
@@ -194,9 +157,17 @@ module _ (os : List Occurrence) (Seen : ℕ → Type 0) (spelled : List ℕ)
       }),
     )
 
+  pub found_inside : (scope outside : List ℕ) (scopes : List (List ℕ)) (found : FoundInside) → IsCandidate outside scope
+      → AreScopes scope (λ c. IsCandidate c outside) scopes → IsFoundAmong os Seen scopes spelled found
+      → IsFoundInside os Seen scope outside spelled found
+  found_inside scope outside scopes (variant.Here found) around are first =
+      found_first scope (λ c. IsCandidate c outside) scopes found are first
+  found_inside scope outside scopes variant.Outside around are none = means_outside scope outside scopes around are none
+
 -- a name with a leading dot means the same in all scopes
 pub means_anywhere : (os : List Occurrence) (Seen : ℕ → Type 0) (spelled rest scope other full : List ℕ)
-    (what : NameKind) → spelled ≡ 46 ∷ rest → Resolves os Seen scope spelled full what → Resolves os Seen other spelled full what
+    (what : NameKind) → spelled ≡ 46 ∷ rest → Resolves os Seen scope spelled full what
+    → Resolves os Seen other spelled full what
 means_anywhere os Seen spelled rest scope other full what is r = record {
   type = r.type;
   means = elim r.means [

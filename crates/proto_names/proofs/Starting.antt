@@ -1,13 +1,16 @@
 -- Hashes and their slots: where slots begin, and the slots of scopes as bits.
-use Rattle.proto_names.proofs.Common.{common_steps, ap, sym, fold, scoped, drop, drop-append_seam, IsCandidate, ◌∙◌, ◌%◌, ◌≡◌, ℕ, ◌+◌, ◌-◌, ◌*◌, ◌<◌, ◌≤◌, List, [], ◌∷◌, ◌++◌, length, take, get_or, append_assoc, arith, inl, inr, lit<, refl, IsTrue, replicate, is_lt, get_or-append_right, cases_lt, get_or-replicate, length-replicate, take_more, Contains-push_cases, ranks_by, sorted_far, le-div, Bits, HasInserted, columns_of, mod_below, hash_of, hash_step, rolling_hash, name_of, Occurrence, AreInHashOrder, name_cmp, is_scope, at, blank, TellsScopes, tells}
+use Rattle.proto_names.proofs.Common.{common_steps, ap, sym, fold, scoped, drop, drop-append_seam, IsCandidate, ◌∙◌, ◌%◌, ◌≡◌, ℕ, ◌+◌, ◌-◌, ◌*◌, ◌<◌, ◌≤◌, List, [], ◌∷◌, ◌++◌, length, take, get_or, append_assoc, arith, inl, inr, lit<, refl, IsTrue, replicate, is_lt, get_or-append_right, cases_lt, get_or-replicate, length-replicate, take_more, Contains-push_cases, ranks_by, sorted_far, le-div, Bits, HasInserted, columns_of, mod_below, hash_of, hash_step, rolling_hash, name_of, Occurrence, AreInHashOrder, name_cmp, is_scope, at, blank, TellsScopes, Option, false, true≢false, Contains-get_or}
 use Rattle.std.proofs.Math.ListN.{get_or-append}
+use Rattle.std.proofs.lemmas.Bool.{and_from, and_parts, cases_Bool}
 use Rattle.std.proofs.Math.Nat.{add-mod-mod, div-lt_iff_lt-mul, div-mul-le_self, mod-add-mod, mul-le-mul_right, mul-lt-mul_of_pos_right, mul_assoc}
 use Rattle.std.proofs.lemmas.List.{length-append}
 use Rattle.std.proofs.lemmas.List.Folds.{fold_along}
 use Rattle.std.proofs.lemmas.List.Sums.{fold-append}
 use Rattle.std.proofs.lemmas.Nat.{mul-mod_first, mul-mod_second}
-use Rattle.proto_names.specs.Hashes.{spread}
-use Rattle.proto_names.specs.Hashes.{slot_of}
+use Rattle.proto_names.specs.Hashes.{slot_of, spread}
+use Rattle.proto_desc.specs.declared.name_kind.NameKind.{NameKind}
+use Rattle.proto_names.specs.Index.{is_service_kind}
+use Rattle.proto_names.specs.ScopeHashes.{tells}
 use Rattle.proto_names.specs.Starts.{AreStarts, BeginsSlot, slot_at}
 use Rattle.proto_names.proofs.Ordered.{first_not, name_total, not_below}
 
@@ -17,9 +20,12 @@ pub rolling_below : (name : List ℕ) → rolling_hash name < 4294967296
 rolling_below name =
     fold_along hash_step hash_step (λ hash other. hash < 4294967296) (λ b c x h. omega arith) 0 0 name (lit< tt)
 
-pub hash_below : (name : List ℕ) → hash_of name < 4294967296
+spread_below : (hash : ℕ) → spread hash < 4294967296
 unfolding spread
-hash_below name = mod_below (rolling_hash name * 2654435769) 4294967296 (lit< tt)
+spread_below hash = mod_below (hash * 2654435769) 4294967296 (lit< tt)
+
+pub hash_below : (name : List ℕ) → hash_of name < 4294967296
+hash_below name = spread_below (rolling_hash name)
 
 -- what stands before a name in a scope
 pub dotted_hash : (s : List ℕ) → 0 < length s → rolling_hash (scoped s []) ≡ hash_step (rolling_hash s) 46
@@ -164,11 +170,33 @@ pub tells_next : (os : List Occurrence) (k slots : ℕ) (old new : Bits) → k <
 tells_next os k slots old new inside kept here told o within is =
     grind (arith, take_more os k blank inside, Contains-push_cases (take k os) (at os k) o, told o, kept o.name)
 
--- where the slot of what stands there is set
-pub tells_set : (os : List Occurrence) (k slots : ℕ) (old new : Bits) → k < length os → 0 < slots
-    → slots ≤ columns_of old → HasInserted old 0 (slot_of slots (hash_of (at os k).name)) new
+-- where both slots of what stands there are set
+pub tells_set : (os : List Occurrence) (k slots : ℕ) (old between new : Bits) → k < length os → 0 < slots
+    → slots ≤ columns_of old → HasInserted old 0 (slot_of slots (hash_of (at os k).name)) between
+    → HasInserted between 0 (slot_of slots (spread (hash_of (at os k).name))) new
     → TellsScopes (take k os) old slots → TellsScopes (take (k + 1) os) new slots
-tells_set os k slots old new inside some room put =
-    let bit = λ (name : List ℕ). put.bits (slot_of slots (hash_of name))
-    (omega (arith, slot_below slots (hash_of name) some (hash_below name), room)) in
-    tells_next os k slots old new inside (λ name is. (bit name).1 (inl is)) (λ is. (bit (at os k).name).1 (inr refl))
+unfolding tells
+tells_set os k slots old between new inside some room put more =
+    let first = λ (c : ℕ) (low : c < slots). put.bits c (omega (arith, low, room)) in
+    let second = λ (c : ℕ) (low : c < slots). more.bits c (omega (arith, low, room, put.large.width)) in
+    let slot = λ (name : List ℕ). slot_below slots (hash_of name) some (hash_below name) in
+    let other = λ (name : List ℕ). slot_below slots (spread (hash_of name)) some (spread_below (hash_of name)) in
+    let name = (at os k).name in
+    tells_next os k slots old new inside
+    (λ n is. let both = and_parts _ _ is in
+    and_from _ _ ((second _ (slot n)).1 (inl ((first _ (slot n)).1 (inl both.0))))
+    ((second _ (other n)).1 (inl ((first _ (other n)).1 (inl both.1)))))
+    (λ is. and_from _ _ ((second _ (slot name)).1 (inl ((first _ (slot name)).1 (inr refl))))
+    ((second _ (other name)).1 (inr refl)))
+
+service_scope : (kind : Option NameKind) → IsTrue (is_service_kind kind) → IsTrue (is_scope kind)
+service_scope kind is = grind arith
+
+-- what is not told is no service
+pub untold : (os : List Occurrence) (bits : Bits) (slots k hash : ℕ) → TellsScopes os bits slots → k < length os
+    → hash ≡ hash_of (at os k).name → tells bits slots hash ≡ false → is_service_kind (at os k).kind ≡ false
+untold os bits slots k hash told inside is none = elim (cases_Bool (is_service_kind (at os k).kind)) [
+  | inl service ↦ absurd (true≢false (sym (told (at os k) (Contains-get_or os k blank inside) (service_scope _ service))
+      ∙ ap (tells bits slots) (sym is) ∙ none))
+  | inr other ↦ other
+]

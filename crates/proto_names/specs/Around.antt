@@ -12,8 +12,8 @@ texts_of scopes = map text_of scopes
 abbrev pub scope_at : List (List ℕ) → ℕ → List ℕ
 scope_at scopes k = slice_index_or scopes k []
 
-abbrev pub IsNone : List ℕ → Type 0
-IsNone c = ⊥
+abbrev pub IsNoScope : List ℕ → Type 0
+IsNoScope c = ⊥
 
 -- a scope and those around it, the longest first, but for some that are shorter than all of them
 pub record AreScopes (scope : List ℕ) (Outside : List ℕ → Type 0) (scopes : List (List ℕ)) : Type 0 where

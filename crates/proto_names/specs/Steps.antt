@@ -1,6 +1,6 @@
 -- Words of private contracts: the steps of a resolution.
 use Rattle.std.specs.List.{position}
-use Rattle.std.specs.Prelude.{◌≡◌, ◌⊎◌, ℕ, ◌<◌, List, length, take, Bool, Option, None, Some, is_some, IsTrue}
+use Rattle.std.specs.Prelude.{◌≡◌, ◌⊎◌, ℕ, ◌<◌, List, length, take, Bool, Option, None, Some, is_some, IsTrue, MatchOption}
 use Rattle.proto_desc.specs.DeclaredNames.{scoped}
 use Rattle.proto_desc.specs.declared.name_kind.NameKind.{NameKind}
 use Rattle.proto_desc.specs.declared.name_kind.NameKind.TheVariants as kind
@@ -11,6 +11,9 @@ use Rattle.proto_names.specs.Runs.{at}
 use Rattle.proto_names.specs.Scopes.{is_dot}
 use Rattle.proto_names.specs.declared.resolve.Decision.{Decision}
 use Rattle.proto_names.specs.declared.resolve.Decision.TheVariants as decision
+use Rattle.proto_names.specs.declared.resolve.FoundInside.{FoundInside}
+use Rattle.proto_names.specs.declared.resolve.FoundInside.TheVariants.{Here, Outside}
+use Rattle.proto_names.specs.declared.resolve.FoundType.{FoundType}
 use Rattle.proto_names.specs.declared.visible.Role.{Role}
 use Rattle.proto_names.specs.declared.visible.Role.TheVariants as role
 
@@ -68,3 +71,14 @@ pub record IsFirstDecided (os : List Occurrence) (Seen : ℕ → Type 0) (scopes
   pub within : at < length scopes
   pub is : scope_at scopes at ≡ c
   pub before : (k : ℕ) → k < at → Decides os Seen (scope_at scopes k) spelled → ⊥
+
+-- what a spelled name is in a scope: this type, or none
+abbrev pub IsFoundIn : List Occurrence → (ℕ → Type 0) → List ℕ → List ℕ → Option FoundType → Type 0
+IsFoundIn os Seen c spelled found = MatchOption found ((what : NameKind) → IsType os Seen (scoped c spelled) what → ⊥)
+    (λ t. (scoped t.scope.now t.name.now ≡ scoped c spelled) × IsType os Seen (scoped c spelled) t.kind)
+
+-- what it is in the first of some scopes that decides, or that none does
+abbrev pub IsFoundAmong : List Occurrence → (ℕ → Type 0) → List (List ℕ) → List ℕ → FoundInside → Type 0
+IsFoundAmong os Seen scopes spelled (Here found) = (c : List ℕ) × IsFirstDecided os Seen scopes spelled c
+    × Decides os Seen c spelled × IsFoundIn os Seen c spelled found
+IsFoundAmong os Seen scopes spelled Outside = NoneDecides os Seen scopes spelled

@@ -33,7 +33,7 @@ mod threading;
 mod twice;
 mod visible;
 
-pub use full_name::{name_in, push_name};
+pub use full_name::name_in;
 pub use hashing::name_hash;
 pub use index::{Defined, NameError, NameIndex};
 pub use resolve::{FoundInside, FoundType, ResolveError, Resolved, Want, resolution_is_unique};

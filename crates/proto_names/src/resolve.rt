@@ -5,13 +5,13 @@ ghost use Rattle.proto_desc.specs.DeclaredNames.{scoped};
 ghost use Rattle.proto_desc.specs.declared.name_kind.NameKind.{NameKind};
 ghost use Rattle.proto_desc.specs.declared.name_kind.NameKind.TheVariants as kinds;
 ghost use Rattle.proto_links.specs.Linked.{count_of};
-ghost use Rattle.proto_names.specs.Around.{AreScopes, IsNone, texts_of};
+ghost use Rattle.proto_names.specs.Around.{AreScopes, IsNoScope, texts_of};
 ghost use Rattle.proto_names.specs.Found.{IsFound, IsFoundInside};
 ghost use Rattle.proto_names.specs.Occurrences.{Occurrence};
 ghost use Rattle.proto_names.specs.Resolution.{SeenBy, Decides, IsType, Resolves, ResolvesNowhere, Visible};
 ghost use Rattle.proto_names.specs.SeenAlike.{AreSeenAlike, IsSeen};
 ghost use Rattle.proto_names.specs.Scopes.{IsCandidate};
-ghost use Rattle.proto_names.specs.Steps.{IsDecision, IsFirstDecided, IsNoType, NoneDecides, first_part, fits, has_dot};
+ghost use Rattle.proto_names.specs.Steps.{IsDecision, IsFirstDecided, IsFoundAmong, IsFoundIn, IsNoType, NoneDecides, first_part, fits, has_dot};
 ghost use Rattle.proto_names.specs.declared.resolve.ResolveError.TheVariants as errors;
 ghost use Rattle.proto_names.specs.declared.resolve.Want.TheVariants as wants;
 
@@ -255,11 +255,8 @@ impl NameIndex {
         requires file { file < self.now.files }
         requires decided { IsDecision self.now.occurrences (SeenBy links.now file) inner.text.now
             spelled.now decision }
-        ensures { MatchOption result ((what : NameKind) → IsType self.now.occurrences
-            (SeenBy links.now file) (scoped inner.entry.text.now spelled.now) what → ⊥)
-            (λ t. (scoped t.scope.now t.name.now ≡ scoped inner.entry.text.now spelled.now)
-            × IsType self.now.occurrences (SeenBy links.now file)
-            (scoped inner.entry.text.now spelled.now) t.kind) }
+        ensures { IsFoundIn self.now.occurrences (SeenBy links.now file) inner.entry.text.now
+            spelled.now result }
     {
         let kind = match decision {
             Decision::Known(kind) => kind,
@@ -270,6 +267,27 @@ impl NameIndex {
             name: spelled,
             kind,
         })
+    }
+
+    /// What a spelled name without a leading dot is in the first of some scopes that decides, or that none does.
+    fn find_among<'n>(
+        &self,
+        links: &Links,
+        file: FileId,
+        scopes: &Scopes<'n>,
+        spelled: &'n str,
+    ) -> FoundInside<'n>
+        requires links { count_of links.now ≡ self.now.files }
+        requires file { file < self.now.files }
+        ensures { IsFoundAmong self.now.occurrences (SeenBy links.now file) scopes.now spelled.now
+            result }
+    {
+        match self.innermost(links, file, &scopes.scopes, spelled) {
+            Some((inner, decision)) => {
+                FoundInside::Here(self.type_in(links, file, inner, decision, spelled))
+            }
+            None => FoundInside::Outside,
+        }
     }
 
     /// The type that a spelled name means in a scope of a file (language guide, "Packages and Name Resolution"), among
@@ -283,7 +301,7 @@ impl NameIndex {
     ) -> Option<FoundType<'n>>
         requires links { count_of links.now ≡ self.now.files }
         requires file { file < self.now.files }
-        ensures { (scope : List ℕ) → AreScopes scope IsNone scopes.now
+        ensures { (scope : List ℕ) → AreScopes scope IsNoScope scopes.now
             → IsFound self.now.occurrences (SeenBy links.now file) scope spelled.now result }
     {
         match spelled.strip_prefix('.') {
@@ -295,10 +313,10 @@ impl NameIndex {
                     kind,
                 })
             }
-            None => {
-                let (inner, decision) = self.innermost(links, file, &scopes.scopes, spelled)?;
-                self.type_in(links, file, inner, decision, spelled)
-            }
+            None => match self.find_among(links, file, scopes, spelled) {
+                FoundInside::Here(found) => found,
+                FoundInside::Outside => None,
+            },
         }
     }
 
@@ -318,14 +336,9 @@ impl NameIndex {
             → IsFoundInside self.now.occurrences (SeenBy links.now file) scope outside spelled.now
             result }
     {
-        if let Some(_) = spelled.strip_prefix('.') {
-            return FoundInside::Outside;
-        }
-        match self.innermost(links, file, &scopes.scopes, spelled) {
-            Some((inner, decision)) => {
-                FoundInside::Here(self.type_in(links, file, inner, decision, spelled))
-            }
-            None => FoundInside::Outside,
+        match spelled.strip_prefix('.') {
+            Some(_) => FoundInside::Outside,
+            None => self.find_among(links, file, scopes, spelled),
         }
     }
 

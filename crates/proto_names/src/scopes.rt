@@ -1,7 +1,7 @@
 //! A scope with those around it, as a list.
 
 ghost use Rattle.std.specs.Prelude.{IfOk};
-ghost use Rattle.proto_names.specs.Around.{AreScopes, IsNone};
+ghost use Rattle.proto_names.specs.Around.{AreScopes, IsNoScope};
 ghost use Rattle.proto_names.specs.Scopes.{IsCandidate};
 
 use crate::scope::Scope;
@@ -40,7 +40,7 @@ impl<'s> Scopes<'s> {
 
     /// The scope of a full name, and all around it.
     pub fn around(alloc: Global, text: &'s str) -> Result<Scopes<'s>, AllocError>
-        ensures { IfOk result (AreScopes text.now IsNone) }
+        ensures { IfOk result (AreScopes text.now IsNoScope) }
     {
         let mut all = Scopes::inside(alloc, text, "")?;
         all.scopes.push(Scope::top())?;

@@ -32,7 +32,7 @@ pub(crate) struct FileNames<'i, 'd> {
 impl<'i, 'd> Model for FileNames<'i, 'd> {
     ghost use Rattle.std.specs.Prelude.{◌≡◌, ◌<◌, ◌≤◌, length};
     ghost use Rattle.proto_links.specs.Linked.{count_of};
-    ghost use Rattle.proto_names.specs.Around.{AreScopes, IsNone};
+    ghost use Rattle.proto_names.specs.Around.{AreScopes, IsNoScope};
     ghost use Rattle.proto_names.specs.Resolution.{SeenBy};
     ghost use Rattle.proto_types.specs.Recalling.{AreKept};
     ghost use Rattle.proto_types.specs.Sight.{Sight, sight};
@@ -42,7 +42,7 @@ impl<'i, 'd> Model for FileNames<'i, 'd> {
     ghost view = { λ names. sight names.index.now names.links.now names.file names.«package».now };
 
     ghost invariant = { λ names. (count_of names.links.now ≡ names.index.now.files)
-        × (names.file < names.index.now.files) × AreScopes names.«package».now IsNone names.around
+        × (names.file < names.index.now.files) × AreScopes names.«package».now IsNoScope names.around
         × (0 < length names.slots.items) × (length names.slots.items ≤ 65_536)
         × AreKept names.index.now.occurrences (SeenBy names.links.now names.file) names.«package».now
         names.slots.items };

@@ -1,11 +1,11 @@
 use Rattle.proto_names.proofs.Common.{IsCandidate, length}
-use Rattle.proto_names.proofs.Listing.{AreScopesTo}
-use Rattle.proto_names.specs.Around.{texts_of}
+use Rattle.proto_names.specs.Around.{AreScopes, texts_of}
 use Rattle.proto_names.proofs.scopes.Scopes.inside.Given as goal
 
 abbrev pub invariant-loop-inner : goal.invariant-loop-inner
 invariant-loop-inner l = record {
-  listed : AreScopesTo l.text l.inner.text.now (texts_of l.scopes.items);
+  listed : AreScopes l.text (λ c. IsCandidate c l.inner.text.now) (texts_of l.scopes.items);
+  within : IsCandidate l.inner.text.now l.text;
   left : IsCandidate l.outside l.inner.text.now;
 }
 
