@@ -1,5 +1,5 @@
 #!/usr/bin/env bash
-# Each allocation of 26 calls that may have no memory refused in turn, in one process: the call answers that it had none, or as ever,
+# Each allocation of 27 calls that may have no memory refused in turn, in one process: the call answers that it had none, or as ever,
 # and as ever when it is made again at once (crates/test_refusals).
 set -u
 cd "$(dirname "$(readlink -f "$0")")/.." || exit 2

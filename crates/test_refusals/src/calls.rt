@@ -83,6 +83,7 @@ pub(crate) enum OnFile<'a> {
     Lower(&'a FileTree<'static>),
     FirstCheckFault(&'a FileTree<'static>, &'a FileDesc<'static>),
     FileBytes(&'a FileDesc<'static>),
+    FileBytesWithin(&'a FileDesc<'static>),
 }
 
 impl OnFile<'_> {
@@ -92,6 +93,7 @@ impl OnFile<'_> {
             OnFile::Lower(tree) => one_file::has_descriptor(alloc, tree),
             OnFile::FirstCheckFault(tree, desc) => one_file::has_no_fault(alloc, tree, desc),
             OnFile::FileBytes(desc) => one_file::has_bytes(alloc, desc),
+            OnFile::FileBytesWithin(desc) => one_file::has_bytes_within(alloc, desc),
         }
     }
 }

@@ -83,6 +83,12 @@ where
     let call = OnFile::FirstCheckFault(tree, desc);
     on_file(rt, console, "first_check_fault", call)
         & on_file(rt, console, "file_bytes", OnFile::FileBytes(desc))
+        & on_file(
+            rt,
+            console,
+            "file_bytes_within",
+            OnFile::FileBytesWithin(desc),
+        )
 }
 
 /// Makes the calls on a file's tree.

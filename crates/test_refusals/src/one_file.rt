@@ -15,7 +15,7 @@ use proto_tree::{Field, FieldType, FileTree, Message, MessageItem, Statement};
 use schema_headline::describe;
 use std::alloc::{AllocError, AllocGlobal, Global};
 use std::thread::Threads;
-use wire_bytes::file_bytes;
+use wire_bytes::{file_bytes, file_bytes_within};
 
 /// The file's name.
 pub(crate) const NAME: &str = "a.proto";
@@ -160,6 +160,17 @@ pub(crate) fn has_bytes(alloc: Global, desc: &FileDesc<'static>) -> Answer {
         return Answer::Other;
     }
     bytes_answer(&file_bytes(alloc, desc), BYTES)
+}
+
+pub(crate) fn has_bytes_within(alloc: Global, desc: &FileDesc<'static>) -> Answer {
+    if !is_resolved(desc) {
+        return Answer::Other;
+    }
+    match file_bytes_within(alloc, desc, BYTES.len() as u64) {
+        Ok(Some(bytes)) => answer_of(bytes.as_slice() == BYTES),
+        Ok(None) => Answer::Other,
+        Err(AllocError) => Answer::NoMemory,
+    }
 }
 
 pub(crate) fn is_described<R: Threads + AllocGlobal + Sync>(rt: &R) -> Answer {
