@@ -4,7 +4,7 @@ ghost use Rattle.std.specs.Prelude.{◌≡◌, ◌∷◌, ◌++◌, ◌≤◌, [
 ghost use Rattle.proto_options.specs.Statements.{oneof_field};
 ghost use Rattle.proto_lower.specs.Fields.{described, label_of, is_optional, field_at, inner, map_described, member_at, real_count, fields_from};
 
-use crate::names::entry_name;
+use crate::names::entry_name_in;
 use crate::options::{bracketed_options, field_json_name};
 use crate::shared_scope::SharedScope;
 use crate::type_name::field_kind;
@@ -97,18 +97,20 @@ pub(crate) fn inner_name(alloc: Global, scope: &str, name: &str) -> Result<Strin
     Ok(full)
 }
 
-/// Adds a map field of the message with this full name: a repeated field of its entry's type.
+/// Adds a map field of the message of this name in the scope: a repeated field of its entry's type.
 fn put_map<'s>(
     alloc: Global,
     out: &mut Vec<FieldDesc<'s>>,
-    message: &mut SharedScope,
+    scope: &mut SharedScope,
+    message: &str,
     map: &MapField<'s>,
 ) -> Result<(), AllocError>
-    ensures same { message.new ≡ message.old }
-    ensures put { OnOk result (out.new.items ≡ out.old.items ++ map_described message.old map.now ∷ []) }
+    ensures same { scope.new ≡ scope.old }
+    ensures put { OnOk result (out.new.items
+        ≡ out.old.items ++ map_described (inner scope.old message.now) map.now ∷ []) }
 {
-    let entry = entry_name(alloc, map.declarator.name.text)?;
-    let full_name = AbsoluteName::new(message.shared(alloc)?, entry);
+    let entry = entry_name_in(alloc, message, map.declarator.name.text)?;
+    let full_name = AbsoluteName::new(scope.shared(alloc)?, entry);
     let kind = TypeKind::Message;
     let field_type = FieldKind::Named(TypeReference::Resolved { full_name, kind });
     put_described(
@@ -178,18 +180,20 @@ pub(crate) fn field_count(items: &[MessageItem]) -> usize {
     count
 }
 
-/// Adds the fields of the message with this full name and these statements, of which `real` are oneofs.
+/// Adds the fields of the message of this name in the scope with these statements, of which `real` are oneofs.
 pub(crate) fn put_fields<'s>(
     alloc: Global,
     out: &mut Vec<FieldDesc<'s>>,
-    full: &str,
+    scope: &mut SharedScope,
+    message: &str,
     items: &[MessageItem<'s>],
     real: usize,
 ) -> Result<(), AllocError>
     requires { real ≤ length items.now }
-    ensures { OnOk result (out.new.items ≡ out.old.items ++ fields_from full.now 0 real items.now) }
+    ensures same { scope.new ≡ scope.old }
+    ensures put { OnOk result (out.new.items
+        ≡ out.old.items ++ fields_from (inner scope.old message.now) 0 real items.now) }
 {
-    let mut message = SharedScope::new(full);
     let mut next_real = 0;
     let mut next_made = real;
     for item in items {
@@ -201,7 +205,7 @@ pub(crate) fn put_fields<'s>(
                     next_made += 1;
                 }
             }
-            MessageItem::Map(map) => put_map(alloc, out, &mut message, map.get())?,
+            MessageItem::Map(map) => put_map(alloc, out, scope, message, map.get())?,
             MessageItem::Oneof(oneof) => {
                 put_members(alloc, out, oneof.get().items.as_slice(), next_real)?;
                 next_real += 1;

@@ -13,6 +13,7 @@ use crate::field::inner_name;
 use crate::message::put_message;
 use crate::options::options_of;
 use crate::service::put_service;
+use crate::shared_scope::SharedScope;
 use proto_base::row::Row;
 use proto_base::text::Text;
 use proto_desc::enumeration::EnumDesc;
@@ -144,11 +145,12 @@ fn put_scoped<'s>(
     ensures services { OnOk result (out.new.services.items
         ≡ out.old.services.items ++ map lowered_service (flat_map file_service statements.now)) }
 {
+    let mut shared = SharedScope::new(scope);
     for statement in statements {
         match statement {
             Statement::Import(import) => put_import(alloc, &mut out.imports, import.get())?,
             Statement::Message(message) => {
-                put_message(alloc, &mut out.messages, scope, message.get())?;
+                put_message(alloc, &mut out.messages, &mut shared, message.get())?;
             }
             Statement::Enum(declared) => put_enum(alloc, &mut out.enums, declared.get())?,
             Statement::Service(service) => put_service(alloc, &mut out.services, service.get())?,

@@ -1,6 +1,7 @@
 //! Messages and the entries that map fields make (language guide, "Nested Types", "Maps").
 
 ghost use Rattle.std.specs.Prelude.{◌≡◌, ◌∷◌, ◌++◌, [], IfOk, OnOk, map, flat_map};
+ghost use Rattle.proto_lower.specs.Fields.{inner};
 ghost use Rattle.proto_lower.specs.Messages.{entry_field, entry_fields, entry_of, all_fields, message_of, nested_of, lowered_message};
 ghost use Rattle.proto_lower.specs.Oneofs.{real_oneofs, names_of_fields, with_made};
 ghost use Rattle.proto_lower.specs.Enums.{lowered_enum};
@@ -12,6 +13,7 @@ use crate::names::entry_name;
 use crate::oneof::put_oneofs;
 use crate::options::options_of;
 use crate::reserved::{message_ranges, reserved_names};
+use crate::shared_scope::SharedScope;
 use crate::type_name::{field_kind, scalar_of_key};
 use proto_base::Place;
 use proto_base::row::Row;
@@ -119,37 +121,47 @@ struct Parts<'s> {
     enums: Vec<EnumDesc<'s>>,
 }
 
-/// Adds those of the statements of the message with this full name.
+/// Adds those of the statements of the message of this name in the scope.
 fn put_parts<'s>(
     alloc: Global,
     out: &mut Parts<'s>,
-    full: &str,
+    scope: &mut SharedScope,
+    message: &str,
     items: &[MessageItem<'s>],
 ) -> Result<(), AllocError>
+    ensures same { scope.new ≡ scope.old }
     ensures fields { OnOk result (out.new.fields.items
-        ≡ out.old.fields.items ++ all_fields full.now items.now) }
+        ≡ out.old.fields.items ++ all_fields (inner scope.old message.now) items.now) }
     ensures oneofs { OnOk result (out.new.oneofs.items
         ≡ with_made (names_of_fields out.new.fields.items)
         (out.old.oneofs.items ++ real_oneofs items.now) out.new.fields.items) }
     ensures enums { OnOk result (out.new.enums.items
         ≡ out.old.enums.items ++ map lowered_enum (flat_map message_enum items.now)) }
 {
-    put_fields(alloc, &mut out.fields, full, items, real_count(items))?;
+    put_fields(
+        alloc,
+        &mut out.fields,
+        scope,
+        message,
+        items,
+        real_count(items),
+    )?;
     put_oneofs(alloc, &mut out.oneofs, items, out.fields.as_slice())?;
     put_enums(alloc, &mut out.enums, items)
 }
 
-/// Adds the message of this full name, name and statements, with the descriptors of its nested messages.
+/// Adds the message of this name in the scope and these statements, with the descriptors of its nested messages.
 fn put_message_of<'s>(
     alloc: Global,
     out: &mut Vec<MessageDesc<'s>>,
-    full: &str,
+    scope: &mut SharedScope,
     name: &Name<'s>,
     items: &[MessageItem<'s>],
     nested: Row<MessageDesc<'s>>,
 ) -> Result<(), AllocError>
-    ensures { OnOk result (out.new.items
-        ≡ out.old.items ++ message_of full.now name.now items.now nested.entry ∷ []) }
+    ensures same { scope.new ≡ scope.old }
+    ensures put { OnOk result (out.new.items ≡ out.old.items
+        ++ message_of (inner scope.old name.now.text) name.now items.now nested.entry ∷ []) }
 {
     let options = options_of(alloc, Element::Message, items)?;
     let mut parts = Parts {
@@ -157,7 +169,7 @@ fn put_message_of<'s>(
         oneofs: Vec::new(alloc),
         enums: Vec::new(alloc),
     };
-    put_parts(alloc, &mut parts, full, items)?;
+    put_parts(alloc, &mut parts, scope, name.text, items)?;
     out.push(MessageDesc {
         name: Text::borrowed(name.text),
         place: name.span.start,
@@ -193,10 +205,11 @@ fn put_nested<'s>(
         ≡ out.old.items ++ flat_map (nested_of full.now) items.now) }
 {
     out.reserve_exact(nested_count(items))?;
+    let mut scope = SharedScope::new(full);
     for item in items {
         match item {
             MessageItem::Map(map) => put_entry(alloc, out, map.get())?,
-            MessageItem::Message(inner) => put_message(alloc, out, full, inner.get())?,
+            MessageItem::Message(inner) => put_message(alloc, out, &mut scope, inner.get())?,
             MessageItem::Field(_) => {}
             MessageItem::Oneof(_) => {}
             MessageItem::Option(_) => {}
@@ -208,27 +221,22 @@ fn put_nested<'s>(
     Ok(())
 }
 
-/// Adds the descriptor of a message in the scope: the full name, behind a leading dot, of what is around it.
+/// Adds the descriptor of a message in the scope.
 #[cycle(messages)]
 pub(crate) fn put_message<'s>(
     alloc: Global,
     out: &mut Vec<MessageDesc<'s>>,
-    scope: &str,
+    scope: &mut SharedScope,
     message: &Message<'s>,
 ) -> Result<(), AllocError>
-    ensures { OnOk result (out.new.items
-        ≡ out.old.items ++ lowered_message scope.now message.now ∷ []) }
+    ensures same { scope.new ≡ scope.old }
+    ensures put { OnOk result (out.new.items
+        ≡ out.old.items ++ lowered_message scope.old message.now ∷ []) }
 {
     let items = message.items.as_slice();
-    let full = inner_name(alloc, scope, message.name.text)?;
+    let full = inner_name(alloc, scope.full(), message.name.text)?;
     let mut nested = Vec::new(alloc);
     put_nested(alloc, &mut nested, full.as_str(), items)?;
-    put_message_of(
-        alloc,
-        out,
-        full.as_str(),
-        &message.name,
-        items,
-        Row::from_vec(nested),
-    )
+    let nested = Row::from_vec(nested);
+    put_message_of(alloc, out, scope, &message.name, items, nested)
 }

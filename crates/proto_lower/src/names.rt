@@ -5,6 +5,7 @@ ghost use Rattle.std.specs.List.{list_any};
 ghost use Rattle.std.specs.Set.{is_member};
 ghost use Rattle.std.specs.Str.{bytes_eq};
 ghost use Rattle.std.specs.BTreeSet.{contains_text};
+ghost use Rattle.proto_lower.specs.Fields.{inner};
 ghost use Rattle.proto_lower.specs.Names.{raised, json_name_of, entry_name_of, oneof_name_of, first_free, with_underscore};
 ghost use Rattle.proto_lower.specs.Taken.{begins_as_made, HoldsTaken};
 
@@ -57,14 +58,36 @@ pub(crate) fn json_text<'s>(alloc: Global, name: &'s str) -> Result<Text<'s>, Al
 /// What the name of a map field's entry ends with.
 const ENTRY: &str = "Entry";
 
+/// Adds the name of a map field's entry.
+fn push_entry_name(made: &mut String, field: &str) -> Result<(), AllocError>
+    ensures { OnOk result (string_bytes made.new ≡ string_bytes made.old ++ entry_name_of field.now) }
+{
+    push_raised(made, field, '_')?;
+    made.push_str(ENTRY)
+}
+
 /// The name of a map field's entry: underscores are dropped, a lower-case ASCII letter is raised at the start and directly
 /// behind an underscore, and `Entry` is added.
 pub fn entry_name(alloc: Global, field: &str) -> Result<String, AllocError>
     ensures { IfOk result (λ name. string_bytes name ≡ entry_name_of field.now) }
 {
     let mut name = String::with_capacity(alloc, field.len().saturating_add(ENTRY.len()))?;
-    push_raised(&mut name, field, '_')?;
-    name.push_str(ENTRY)?;
+    push_entry_name(&mut name, field)?;
+    Ok(name)
+}
+
+/// The name of a map field's entry with that of its message before it.
+pub(crate) fn entry_name_in(alloc: Global, message: &str, field: &str) -> Result<String, AllocError>
+    ensures { IfOk result (λ name. string_bytes name ≡ inner message.now (entry_name_of field.now)) }
+{
+    let dotted = message.len().saturating_add(1);
+    let room = dotted
+        .saturating_add(field.len())
+        .saturating_add(ENTRY.len());
+    let mut name = String::with_capacity(alloc, room)?;
+    name.push_str(message)?;
+    name.push_str(".")?;
+    push_entry_name(&mut name, field)?;
     Ok(name)
 }
 

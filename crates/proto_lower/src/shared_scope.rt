@@ -1,4 +1,4 @@
-//! A scope that names of types share.
+//! The scope of messages, which the names of their map fields' types share.
 
 ghost use Rattle.std.specs.Prelude.{◌≡◌, IfOk};
 ghost use Rattle.std.specs.Arc.{arc_str_bytes};
@@ -7,8 +7,8 @@ use std::alloc::{AllocError, Global};
 use std::marker::Model;
 use std::sync::ArcStr;
 
-/// The full name of a message behind a leading dot, of which one copy is made for all of its map fields, where it has
-/// any. Contracts see the name.
+/// The full name of a scope behind a leading dot, empty where no package is around it. One copy of it is made for all
+/// messages in it, where any has a map field. Contracts see the name.
 #[derive(Drop)]
 pub(crate) struct SharedScope<'f> {
     full: &'f str,
@@ -31,6 +31,13 @@ impl<'f> SharedScope<'f> {
         ensures { result ≡ full.now }
     {
         SharedScope { full, copy: None }
+    }
+
+    /// The name, as it was handed in.
+    pub(crate) fn full(&self) -> &'f str
+        ensures { result.now ≡ self.now }
+    {
+        self.full
     }
 
     /// The name, once more.

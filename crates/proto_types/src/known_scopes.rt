@@ -19,7 +19,7 @@ fn is_behind_dot(known: &str, scope: &str) -> bool
 }
 
 /// The scope's full name behind a leading dot.
-fn put_behind_dot(alloc: Global, scope: &str) -> Result<String, AllocError>
+fn text_behind_dot(alloc: Global, scope: &str) -> Result<String, AllocError>
     ensures { IfOk result (λ text. string_bytes text ≡ behind_dot scope.now) }
 {
     if scope.is_empty() {
@@ -76,7 +76,7 @@ impl KnownScopes {
         if let Some(known) = self.known(scope) {
             return known.clone();
         }
-        let shared = ArcStr::from_string(put_behind_dot(self.alloc, scope)?)?;
+        let shared = ArcStr::from_string(text_behind_dot(self.alloc, scope)?)?;
         self.put(scope, shared.clone()?)?;
         Ok(shared)
     }

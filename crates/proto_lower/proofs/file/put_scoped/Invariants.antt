@@ -5,6 +5,7 @@ use Rattle.proto_lower.proofs.file.put_scoped.Given as goal
 
 abbrev pub invariant-loop-statement : goal.invariant-loop-statement
 invariant-loop-statement l = record {
+  same : l.shared ≡ l.scope;
   imports : l.out.imports.items ≡ l.initial.out.imports.items
       ++ flat_map import_of (take l.statement-index l.statements);
   messages : l.out.messages.items ≡ l.initial.out.messages.items
