@@ -8,3 +8,4 @@ pub mod Tabled
 pub mod Unique
 mod Listing
 mod EntryLemmas
+mod Parting

@@ -20,7 +20,7 @@ pub rolling_below : (name : List ℕ) → rolling_hash name < 4294967296
 rolling_below name =
     fold_along hash_step hash_step (λ hash other. hash < 4294967296) (λ b c x h. omega arith) 0 0 name (lit< tt)
 
-spread_below : (hash : ℕ) → spread hash < 4294967296
+pub spread_below : (hash : ℕ) → spread hash < 4294967296
 unfolding spread
 spread_below hash = mod_below (hash * 2654435769) 4294967296 (lit< tt)
 

@@ -16,5 +16,6 @@ pub mod Steps
 pub mod Repeated
 pub mod SeenAlike
 pub mod ScopeHashes
+pub mod ScopeParts
 pub mod Around
 pub mod Found

@@ -22,6 +22,16 @@ pub(crate) fn spread(hash: u32) -> u32
     (hash as u64 * SPREADING_FACTOR % MODULUS) as u32
 }
 
+/// The inverse of `SPREADING_FACTOR`, modulo 2^32.
+const SPREADING_INVERSE: u64 = 340_573_321;
+
+/// The rolling hash of which this one was spread.
+pub(crate) fn unspread(hash: u32) -> u32
+    ensures { (rolling : ℕ) → rolling < 4294967296 → hash ≡ spread rolling → result ≡ rolling }
+{
+    (hash as u64 * SPREADING_INVERSE % MODULUS) as u32
+}
+
 /// A rolling hash with a byte more.
 pub(crate) fn with_byte(hash: u32, byte: u8) -> u32
     ensures { result ≡ hash_step hash byte }
@@ -29,15 +39,22 @@ pub(crate) fn with_byte(hash: u32, byte: u8) -> u32
     ((hash as u64 * FACTOR + byte as u64) % MODULUS) as u32
 }
 
+/// A rolling hash with more bytes.
+pub(crate) fn with_bytes(start: u32, bytes: &[u8]) -> u32
+    ensures { result ≡ fold hash_step start bytes.now }
+{
+    let mut hash = start;
+    for byte in bytes {
+        hash = with_byte(hash, *byte);
+    }
+    hash
+}
+
 /// A rolling hash with the bytes of a text more.
 pub(crate) fn with_text(start: u32, text: &str) -> u32
     ensures { result ≡ fold hash_step start text.now }
 {
-    let mut hash = start;
-    for byte in text.as_bytes() {
-        hash = with_byte(hash, *byte);
-    }
-    hash
+    with_bytes(start, text.as_bytes())
 }
 
 /// The hash of a name.

@@ -17,6 +17,7 @@ ghost use Rattle.proto_base.specs.declared.place.Place.{Place};
 use crate::entry::Location;
 use crate::hashing::HashedName;
 use crate::scope::Scope;
+use crate::scope_parts::ScopeParts;
 use crate::shares::sorted_shares;
 use crate::sorted::SortedShare;
 use crate::table::EntryTable;
@@ -170,9 +171,10 @@ impl NameIndex {
             return Err(NameError::At(location.file, location.place));
         }
         let (tables, services) = taken_apart(alloc, shares)?;
+        let parts = ScopeParts::for_files(alloc, files, &tables)?;
         Ok(NameIndex {
             files: files.len(),
-            entries: Tables::new(tables),
+            entries: Tables::new(tables, parts),
             services,
         })
     }

@@ -22,6 +22,7 @@ mod resolve;
 mod scope;
 mod scope_before;
 mod scope_hashes;
+mod scope_parts;
 mod scopes;
 mod share;
 mod shares;

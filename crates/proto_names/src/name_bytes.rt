@@ -1,10 +1,12 @@
 //! Names that are read from their ends on, as entries have them: a name, and the scope before it.
 
-ghost use Rattle.std.specs.Prelude.{◌≡◌, ◌↔◌, ◌<◌, ◌≤◌, ◌++◌, ◌∷◌, [], None, length, IfOk, IfSome, IsTrue, IsUtf8, MatchOption, string_bytes};
+ghost use Rattle.std.specs.Prelude.{◌≡◌, ◌↔◌, ◌<◌, ◌≤◌, ◌++◌, ◌∷◌, [], List, None, ℕ, length, IfOk, IfSome, IsTrue, IsUtf8, MatchOption, string_bytes};
 ghost use Rattle.proto_desc.specs.DeclaredNames.{scoped};
 ghost use Rattle.proto_names.specs.Order.{end_cmp};
+ghost use Rattle.proto_names.specs.ScopeParts.{IsParted};
 
 use crate::scope_before::ScopeBefore;
+use memchr::memrchr;
 use std::alloc::{AllocError, Global};
 use std::cmp::Ordering;
 use std::marker::Model;
@@ -52,6 +54,16 @@ impl<'e> NameBytes<'e> {
         NameBytes {
             unread: name.as_bytes(),
             scope,
+        }
+    }
+
+    /// What stands behind the last dot, or all where there is none.
+    pub(crate) fn last_part(&self) -> &'e [u8]
+        ensures { (before : List ℕ) × IsParted self.now before result.now }
+    {
+        match memrchr(b'.', self.unread) {
+            Some(dot) => &self.unread[dot + 1..],
+            None => self.unread,
         }
     }
 

@@ -38,7 +38,7 @@ fn parent(scope: &str) -> &str
 pub struct Scope<'s> {
     /// The full name, empty for what stands in no package.
     pub text: &'s str,
-    before_name: u32,
+    pub(crate) before_name: u32,
     ghost hashed: { before_name ≡ rolling_hash (scoped text.now []) },
 }
 

@@ -80,6 +80,13 @@ impl EntryTable {
         })
     }
 
+    /// The names of the entries, in their order.
+    pub(crate) fn names(&self) -> Names<'_>
+        ensures { result ≡ self.now }
+    {
+        self.entries.names()
+    }
+
     /// Whether the full name of a scope may have this hash. Of most names that are none a bit tells so.
     pub(crate) fn may_be_scope(&self, hash: u32) -> bool
         ensures { (o : Occurrence) → Contains self.now o → IsTrue (is_scope o.kind)

@@ -24,7 +24,8 @@ pub(crate) static ONE: [Source<'static>; 1] = [Source {
     text: TEXT,
 }];
 
-/// The first sees the message of the last by public imports.
+/// The first sees the message of the last by public imports. The third has a package so long that an index keeps the last
+/// parts of names.
 pub(crate) static LINKED: [Source<'static>; 4] = [
     Source {
         name: "a.proto",
@@ -36,7 +37,9 @@ pub(crate) static LINKED: [Source<'static>; 4] = [
     },
     Source {
         name: "c.proto",
-        text: b"syntax = \"proto3\"; import public \"d.proto\";",
+        text: b"syntax = \"proto3\"; package a_package.of_one_hundred_and_twenty_eight_bytes.or_more.\
+            in_which_a_name.is_looked_up_in_many_scopes.one_for_each_of_its_parts.and_one_around;\
+            import public \"d.proto\";",
     },
     Source {
         name: "d.proto",

@@ -14,8 +14,8 @@ returns-in-Some-first_of-clause-twice g c file place e =
       twice = rw (← same.0, ← same.1) (first_twice_of _ c.in-Some.shares.items are location first);
     }
 
-pub new-requires : goal.new-requires
-new-requires g c =
+pub new-requires-clause-shares : goal.new-requires-clause-shares
+new-requires-clause-shares g c =
     rw c.in_ok-tables.ensures.tables
     (in_shares (occurrences c.args.files.now) c.in-Some.shares.items (rw c.in-Some.is at c.in_ok-shares.ensures.shares))
 

@@ -1,7 +1,11 @@
 use Rattle.proto_names.proofs.Common.{List, Contains, Index, Occurrence, ap, subst, sym}
 use Rattle.proto_names.specs.SeenAlike.{IsSeen}
+use Rattle.proto_names.proofs.Parting.{first_part_plain}
 use Rattle.proto_names.proofs.Unique.{first_visible}
 use Rattle.proto_names.proofs.index.NameIndex.may_decide.Goals as goal
+
+pub may_be_scope-requires : goal.may_be_scope-requires
+may_be_scope-requires c = rw c.args.spelled.parted (first_part_plain c.args.spelled.text.now)
 
 pub returns : goal.returns
 returns c seen decides =
