@@ -1,11 +1,10 @@
 -- What entries stand for, one behind the other, and the scopes among them.
-use Rattle.proto_names.proofs.Common.{common_steps, MatchOption, inl, inr, ◌⊎◌, ◌≡◌, ◌≢◌, ◌∙◌, ap, sym, refl, ℕ, zero, suc, ◌+◌, ◌<◌, ◌≤◌, List, [], ◌∷◌, ◌++◌, length, map, take, drop, get_or, fold, ◌-◌, arith, append_assoc, append-nil, length-append, length-drop, length-map, IsUtf8, Option, None, Some, drop-append-le, take-append-le, take_all, drop_at, drop-append_seam, map_push, get_or-take, get_or-map, get_or_append_left, get_or_push, get_or-append_right, length_push, length-take, cases_lt, take-append_seam, All, All-head, All-tail, scoped, hash_step, rolling_hash, Occurrence, package_occurrence, prefixes, at, blank}
+use Rattle.proto_names.proofs.Common.{common_steps, MatchOption, inl, inr, ◌⊎◌, ◌≡◌, ◌≢◌, ◌∙◌, ap, sym, refl, ℕ, zero, suc, ◌+◌, ◌<◌, ◌≤◌, List, [], ◌∷◌, ◌++◌, length, map, take, drop, get_or, fold, arith, append_assoc, append-nil, length-append, length-drop, length-map, IsUtf8, Option, None, Some, drop-append-le, take-append-le, take_all, drop_at, drop-append_seam, map_push, get_or-take, get_or-map, get_or_append_left, get_or_push, get_or-append_right, length_push, length-take, cases_lt, take-append_seam, All, All-head, All-tail, scoped, hash_step, rolling_hash, Occurrence, package_occurrence, prefixes, at, blank}
 use Rattle.std.specs.Option.{unwrap_or}
 use Rattle.std.specs.Prelude.{if◌then◌else◌}
-use Rattle.std.proofs.lemmas.List.{map-append}
 use Rattle.std.proofs.lemmas.List.Sums.{fold-append}
 use Rattle.std.proofs.lemmas.Str.{IsUtf8-append, IsUtf8-from_ascii}
-use Rattle.proto_names.specs.Entries.{AreEntriesOf, IsFrontText, IsScopeAmong, NamedEntry, occurrence_behind, occurrences_of_named, occurrences_of_entries, own_name, named_entry, prefix_entry, scope_name}
+use Rattle.proto_names.specs.Entries.{AreEntriesOf, IsScopeAmong, NamedEntry, occurrence_behind, occurrences_of_named, occurrences_of_entries, own_name, named_entry, scope_name}
 use Rattle.proto_names.specs.Scopes.{is_dot}
 use Rattle.proto_names.specs.declared.entry.Entry.{Entry}
 use Rattle.proto_names.specs.declared.entry.Location.{Location}
@@ -95,7 +94,7 @@ reads_more old more (e ∷ es) within =
     cc (here, reads_more old more es (All-tail (λ e. e.start + e.len ≤ length old) e es within))
 
 module _ (old more : List ℕ) (es : List Entry) (of : AreEntriesOf old es) where
-  told_more : occurrences_of_entries (old ++ more) es ≡ occurrences_of_entries old es
+  pub told_more : occurrences_of_entries (old ++ more) es ≡ occurrences_of_entries old es
   told_more = ap occurrences_of_named (reads_more old more es (λ k d h. (of k d h).within))
 
   pub entries_more : AreEntriesOf (old ++ more) es
@@ -140,45 +139,50 @@ scoped_some : (scope name : List ℕ) → (scope ≢ []) ⊎ (name ≢ []) → s
 scoped_some [] name h e = grind arith
 scoped_some (c ∷ cs) name h e = grind (arith, common_steps)
 
--- ---- an entry more, whose own name goes behind the text
+-- ---- an entry more, whose own name stands in the text
 
-module _ (old name : List ℕ) (es : List Entry) (e : Entry) (scope : Option ℕ) (of : AreEntriesOf old es)
-    (start : e.start ≡ length old) (len : e.len ≡ length name)
+abbrev pub occurrence_in : Option ℕ → List Occurrence → List ℕ → Entry → Occurrence
+occurrence_in scope os name e = record {
+  name = scoped (scope_name os scope) name;
+  file = e.location.file;
+  place = e.location.place;
+  kind = e.kind;
+}
+
+module _ (text name : List ℕ) (es : List Entry) (e : Entry) (scope : Option ℕ) (of : AreEntriesOf text es)
+    (within : e.start + e.len ≤ length text) (own : own_name text e ≡ name)
     (placed : MatchOption scope (length es ≤ e.scope) (λ s. e.scope ≡ s))
-    (among : IsScopeAmong (occurrences_of_entries old es) scope) where
-  abbrev pub os : List Occurrence
-  os = occurrences_of_entries old es
+    (among : IsScopeAmong (occurrences_of_entries text es) scope) where
+  abbrev os : List Occurrence
+  os = occurrences_of_entries text es
 
-  abbrev pub full : List ℕ
+  abbrev full : List ℕ
   full = scoped (scope_name os scope) name
 
-  abbrev pub o : Occurrence
-  o = record { name = full; file = e.location.file; place = e.location.place; kind = e.kind }
-
-  own_is : own_name (old ++ name) e ≡ name
-  own_is = grind (arith, common_steps, drop_at, take_all, length-append old name)
+  abbrev o : Occurrence
+  o = occurrence_in scope os name e
 
   outer_is : (at os e.scope).name ≡ scope_name os scope
   outer_is = outer_by scope placed where
     outer_by : (s : Option ℕ) → MatchOption s (length es ≤ e.scope) (λ s. e.scope ≡ s)
         → (at os e.scope).name ≡ scope_name os s
-    outer_by None far = ap (λ o. o.name) (told_beyond old es e.scope far)
+    outer_by None far = ap (λ o. o.name) (told_beyond text es e.scope far)
     outer_by (Some s) is = ap (λ k. (at os k).name) is
 
-  behind_is : occurrence_behind os (named_entry (old ++ name) e) ≡ o
-  behind_is = rw (outer_is, own_is) refl
+  behind_is : occurrence_behind os (named_entry text e) ≡ o
+  behind_is = rw (outer_is, own) refl
 
-  pub told_push : occurrences_of_entries (old ++ name) (es ++ e ∷ []) ≡ os ++ o ∷ []
-  told_push =
-      ap occurrences_of_named (map_push (named_entry (old ++ name)) es e)
-      ∙ read_push (map (named_entry (old ++ name)) es) (named_entry (old ++ name) e)
-      ∙ rw (told_more old name es of, behind_is) refl
+  pub told_put : occurrences_of_entries text (es ++ e ∷ []) ≡ os ++ o ∷ []
+  told_put =
+      ap occurrences_of_named (map_push (named_entry text) es e)
+      ∙ read_push (map (named_entry text) es) (named_entry text e)
+      ∙ rw behind_is refl
 
   at_old : (k : ℕ) → k < length es → at (os ++ o ∷ []) k ≡ at os k
-  at_old k h = get_or_append_left os (o ∷ []) blank k (omega (arith, told_length old es, h))
+  at_old k h = get_or_append_left os (o ∷ []) blank k (omega (arith, told_length text es, h))
 
   at_new : at (os ++ o ∷ []) (length es) ≡ o
-  at_new = get_or_push os o blank (length es) (told_length old es)
+  at_new = get_or_push os o blank (length es) (told_length text es)
 
   named_scope : e.scope < length es → (at os e.scope).name ≢ []
   named_scope = named_by scope placed among where
@@ -191,20 +195,20 @@ module _ (old name : List ℕ) (es : List Entry) (e : Entry) (scope : Option ℕ
   full_text inner = scoped_text (scope_name os scope) name (outer_text scope among) inner where
     outer_text : (s : Option ℕ) → IsScopeAmong os s → IsUtf8 (scope_name os s)
     outer_text None is = no_text
-    outer_text (Some s) is = (of s e (omega (arith, told_length old es, is.0))).is_text
+    outer_text (Some s) is = (of s e (omega (arith, told_length text es, is.0))).is_text
 
-  pub entries_push : IsUtf8 name → e.rolling ≡ rolling_hash full → AreEntriesOf (old ++ name) (es ++ e ∷ [])
-  entries_push inner hash k d h = rw told_push (elim (cases_lt k (length es)) [
+  pub entries_put : IsUtf8 name → e.rolling ≡ rolling_hash full → AreEntriesOf text (es ++ e ∷ [])
+  entries_put inner hash k d h = rw told_put (elim (cases_lt k (length es)) [
     | inl low ↦ (let was = of k d low in
         rw (get_or_append_left es (e ∷ []) d k low) (record {
-          within = omega (arith, was.within, length-append old name);
+          within = was.within;
           is_text = rw (at_old k low) was.is_text;
           hashed = rw (at_old k low) was.hashed;
           named = λ less. rw (at_old (get_or es k d).scope (omega (arith, less, low))) (was.named less);
         }))
     | inr high ↦ (let last : k ≡ length es = omega (arith, h, high, length_push es e) in
         rw (last, get_or_push es e d (length es) refl) (record {
-          within = omega (arith, start, len, length-append old name);
+          within = within;
           is_text = rw at_new (full_text inner);
           hashed = rw at_new hash;
           named = λ less. rw (at_old e.scope less) (named_scope less);
@@ -212,15 +216,15 @@ module _ (old name : List ℕ) (es : List Entry) (e : Entry) (scope : Option ℕ
   ])
 
   -- the entry as a scope
-  pub scope_push : (inside : Option ℕ)
+  pub scope_put : (inside : Option ℕ)
       → MatchOption inside ((scope ≡ None) × (name ≡ []))
       (λ at. (at ≡ length es) × ((scope ≢ None) ⊎ (name ≢ [])))
       → (scope_name (os ++ o ∷ []) inside ≡ full) × IsScopeAmong (os ++ o ∷ []) inside
-  scope_push None (none, empty) = (rw (none, empty) refl, tt)
-  scope_push (Some k) (is, some) = rw is (
+  scope_put None (none, empty) = (rw (none, empty) refl, tt)
+  scope_put (Some k) (is, some) = rw is (
     ap (λ o. o.name) at_new,
     (
-      omega (arith, told_length old es, length_push os o),
+      omega (arith, told_length text es, length_push os o),
       λ empty. scoped_some (scope_name os scope) name (outer_some some) (ap (λ o. o.name) (sym at_new) ∙ empty),
     ),
   ) where
@@ -230,6 +234,47 @@ module _ (old name : List ℕ) (es : List Entry) (e : Entry) (scope : Option ℕ
       some_by : (s : Option ℕ) → s ≢ None → IsScopeAmong os s → scope_name os s ≢ []
       some_by None h is = absurd (h refl)
       some_by (Some s) h is = is.1
+
+-- whose own name goes behind the text
+module _ (old name : List ℕ) (es : List Entry) (e : Entry) (scope : Option ℕ) (of : AreEntriesOf old es)
+    (start : e.start ≡ length old) (len : e.len ≡ length name)
+    (placed : MatchOption scope (length es ≤ e.scope) (λ s. e.scope ≡ s))
+    (among : IsScopeAmong (occurrences_of_entries old es) scope) where
+  same : occurrences_of_entries (old ++ name) es ≡ occurrences_of_entries old es
+  same = told_more old name es of
+
+  grown : AreEntriesOf (old ++ name) es
+  grown = entries_more old name es of
+
+  own_is : own_name (old ++ name) e ≡ name
+  own_is = grind (arith, common_steps, drop_at, take_all, length-append old name)
+
+  within : e.start + e.len ≤ length (old ++ name)
+  within = omega (arith, start, len, length-append old name)
+
+  among_more : IsScopeAmong (occurrences_of_entries (old ++ name) es) scope
+  among_more = rw same among
+
+  pub told_push : occurrences_of_entries (old ++ name) (es ++ e ∷ [])
+      ≡ occurrences_of_entries old es ++ occurrence_in scope (occurrences_of_entries old es) name e ∷ []
+  told_push = rw same at (told_put (old ++ name) name es e scope grown within own_is placed among_more)
+
+  pub entries_push : IsUtf8 name
+      → e.rolling ≡ rolling_hash (scoped (scope_name (occurrences_of_entries old es) scope) name)
+      → AreEntriesOf (old ++ name) (es ++ e ∷ [])
+  entries_push inner hash =
+      entries_put (old ++ name) name es e scope grown within own_is placed among_more inner (rw same hash)
+
+  pub scope_push : (inside : Option ℕ)
+      → MatchOption inside ((scope ≡ None) × (name ≡ []))
+      (λ at. (at ≡ length es) × ((scope ≢ None) ⊎ (name ≢ [])))
+      → (scope_name (occurrences_of_entries old es
+      ++ occurrence_in scope (occurrences_of_entries old es) name e ∷ []) inside
+      ≡ scoped (scope_name (occurrences_of_entries old es) scope) name)
+      × IsScopeAmong (occurrences_of_entries old es
+      ++ occurrence_in scope (occurrences_of_entries old es) name e ∷ []) inside
+  scope_push inside is =
+      rw same at (scope_put (old ++ name) name es e scope grown within own_is placed among_more inside is)
 
 -- ---- the prefixes of a package's name, which all have the text of the name
 
@@ -243,85 +288,22 @@ front_front name prefix shorter front less split =
     ap (take (length shorter)) split ∙ take-append_seam shorter (drop (length shorter) prefix) in
     sym cut ∙ ap (take (length shorter)) front ∙ last
 
-module _ (old name : List ℕ) (location : Location) where
-  abbrev prefix_at : List ℕ → Entry
-  prefix_at = prefix_entry (length old) location
+module _ (old name prefix : List ℕ) (es : List Entry) (e : Entry) (of : AreEntriesOf (old ++ name) es)
+    (start : e.start ≡ length old) (len : e.len ≡ length prefix) (front : take (length prefix) name ≡ prefix)
+    (far : length es ≤ e.scope) where
+  own_front : own_name (old ++ name) e ≡ prefix
+  own_front = rw (start, len, drop-append_seam old name) front
 
-  abbrev package_at : List ℕ → Occurrence
-  package_at = package_occurrence location.file location.place
+  within_front : e.start + e.len ≤ length (old ++ name)
+  within_front =
+      omega (arith, start, len, ap length front, length-take (length prefix) name, length-append old name)
 
-  own_prefix : (q : List ℕ) → IsFrontText name q → own_name (old ++ name) (prefix_at q) ≡ q
-  own_prefix q (text, front) = ap (take (length q)) (drop-append_seam old name) ∙ front
+  pub prefix_told : occurrences_of_entries (old ++ name) (es ++ e ∷ [])
+      ≡ occurrences_of_entries (old ++ name) es ++ occurrence_in None [] prefix e ∷ []
+  prefix_told = told_put (old ++ name) prefix es e None of within_front own_front far tt
 
-  prefix_behind : (os : List Occurrence) (q : List ℕ) → IsFrontText name q → length os ≤ 18446744073709551615
-      → occurrence_behind os (named_entry (old ++ name) (prefix_at q)) ≡ package_at q
-  prefix_behind os q is far =
-      let none : at os 18446744073709551615 ≡ blank = grind (arith, common_steps) in
-      rw (none, own_prefix q is) refl
-
-  put_prefixes : (os : List Occurrence) (qs : List (List ℕ)) → All (IsFrontText name) qs
-      → length os + length qs ≤ 18446744073709551615
-      → fold put os (map (named_entry (old ++ name)) (map prefix_at qs)) ≡ os ++ map package_at qs
-  put_prefixes os [] fronts far = sym (append-nil os)
-  put_prefixes os (q ∷ qs) fronts far =
-      let here = prefix_behind os q (All-head (IsFrontText name) q qs fronts) (omega (arith, far)) in
-      let more = put_prefixes (os ++ package_at q ∷ []) qs (All-tail (IsFrontText name) q qs fronts)
-      (omega (arith, far, length-append os (package_at q ∷ []))) in
-      ap (λ o. fold put (os ++ o ∷ []) (map (named_entry (old ++ name)) (map prefix_at qs))) here ∙ more
-      ∙ append_assoc os (package_at q ∷ []) (map package_at qs)
-
-  module _ (es : List Entry) (qs : List (List ℕ)) (of : AreEntriesOf old es) (fronts : All (IsFrontText name) qs)
-      (far : length es + length qs ≤ 18446744073709551615) where
-    abbrev before_prefixes : List Occurrence
-    before_prefixes = occurrences_of_entries old es
-
-    at_before : (k : ℕ) → k < length es → at (before_prefixes ++ map package_at qs) k ≡ at before_prefixes k
-    at_before k h =
-        get_or_append_left before_prefixes (map package_at qs) blank k (omega (arith, told_length old es, h))
-
-    pub prefixes_told :
-        occurrences_of_entries (old ++ name) (es ++ map prefix_at qs) ≡ before_prefixes ++ map package_at qs
-    unfolding occurrences_of_named
-    prefixes_told =
-        ap occurrences_of_named (map-append (named_entry (old ++ name)) es (map prefix_at qs))
-        ∙ fold-append put [] (map (named_entry (old ++ name)) es) (map (named_entry (old ++ name)) (map prefix_at qs))
-        ∙ ap (λ os. fold put os (map (named_entry (old ++ name)) (map prefix_at qs))) (told_more old name es of)
-        ∙ put_prefixes before_prefixes qs fronts (omega (arith, far, told_length old es))
-
-    pub prefixes_entries : AreEntriesOf (old ++ name) (es ++ map prefix_at qs)
-    prefixes_entries k d h = rw prefixes_told (elim (cases_lt k (length es)) [
-      | inl low ↦ (let was = of k d low in
-          rw (get_or_append_left es (map prefix_at qs) d k low) (record {
-            within = omega (arith, was.within, length-append old name);
-            is_text = rw (at_before k low) was.is_text;
-            hashed = rw (at_before k low) was.hashed;
-            named = λ less. rw (at_before (get_or es k d).scope (omega (arith, less, low))) (was.named less);
-          }))
-      | inr high ↦ (let j = k - length es in
-          let inside : j < length qs =
-          omega (arith, h, high, length-append es (map prefix_at qs), length-map qs prefix_at) in
-          let q = get_or qs j [] in
-          let (text, front) = fronts j [] inside in
-          let entry : get_or (es ++ map prefix_at qs) k d ≡ prefix_at q =
-          get_or-append_right es (map prefix_at qs) k d high ∙ get_or-map prefix_at qs j [] d inside in
-          let size = told_length old es in
-          let told : at (before_prefixes ++ map package_at qs) k ≡ package_at q =
-          get_or-append_right before_prefixes (map package_at qs) k blank (omega (arith, size, high))
-          ∙ ap (λ n. get_or (map package_at qs) (k - n) blank) size ∙ get_or-map package_at qs j [] blank inside in
-          rw entry (record {
-            within = omega (arith, ap length front, length-take (length q) name, length-append old name);
-            is_text = rw told text;
-            hashed = rw told refl;
-            named = λ less. absurd (omega (
-              arith,
-              less,
-              far,
-              h,
-              length-append es (map prefix_at qs),
-              length-map qs prefix_at,
-            ));
-          }))
-    ])
+  pub prefix_entries : IsUtf8 prefix → e.rolling ≡ rolling_hash prefix → AreEntriesOf (old ++ name) (es ++ e ∷ [])
+  prefix_entries = entries_put (old ++ name) prefix es e None of within_front own_front far tt
 
 -- the longest prefix of a name is the name
 first_prefix : (name : List ℕ) → (rest : List (List ℕ)) × (prefixes name ≡ name ∷ rest)

@@ -53,24 +53,6 @@ abbrev pub AreEntriesOf : List ℕ → List Entry → Type 0
 AreEntriesOf text es =
     (k : ℕ) (d : Entry) → k < length es → IsEntryAt text (occurrences_of_entries text es) k (slice_index_or es k d)
 
--- ---- packages
-
--- UTF-8 with which a name begins
-abbrev pub IsFrontText : List ℕ → List ℕ → Type 0
-IsFrontText name q = IsUtf8 q × (take (length q) name ≡ q)
-
--- the entry of a prefix of a package's name, whose text starts there. It stands in no scope
-abbrev pub prefix_entry : ℕ → Location → List ℕ → Entry
-prefix_entry start location prefix =
-    record {
-      start = start;
-      len = length prefix;
-      scope = 18446744073709551615;
-      location = location;
-      rolling = rolling_hash prefix;
-      kind = None;
-    }
-
 -- ---- scopes in which names are put
 
 -- the name of the scope that stands at a position; of none it is empty

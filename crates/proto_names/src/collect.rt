@@ -8,7 +8,7 @@ ghost use Rattle.proto_desc.specs.DeclaredNames.{declared_by_enum, declared_by_m
 ghost use Rattle.proto_names.specs.Occurrences.{declared_occurrence, package_occurrences, occurrences_of};
 
 use crate::entries::Entries;
-use crate::entry::Location;
+use crate::entry::{Location, narrow};
 use proto_desc::enumeration::EnumDesc;
 use proto_desc::file::{FileDesc, PackageDescriptor};
 use proto_desc::message::MessageDesc;
@@ -21,8 +21,8 @@ use std::alloc::{AllocError, Global};
 /// Puts elements that declare their own names alone, in the scope whose entry stands at a position; without one, in no scope.
 fn put_members<D: Declares>(
     entries: &mut Entries,
-    file: FileId,
-    scope: Option<usize>,
+    file: u32,
+    scope: Option<u32>,
     members: &[D],
 ) -> Result<(), AllocError>
     requires { IsScopeAmong entries.old scope }
@@ -47,12 +47,7 @@ trait Collect {
     ghost declares: { List ℕ → Self → List Declared };
 
     /// Puts these names behind the others, in the scope whose entry stands at a position; without one, in no scope.
-    fn put(
-        &self,
-        entries: &mut Entries,
-        file: FileId,
-        scope: Option<usize>,
-    ) -> Result<(), AllocError>
+    fn put(&self, entries: &mut Entries, file: u32, scope: Option<u32>) -> Result<(), AllocError>
         requires { IsScopeAmong entries.old scope }
         ensures { OnOk result (entries.new ≡ entries.old
             ++ map (declared_occurrence file) (declares (scope_name entries.old scope) self.now)) };
@@ -61,8 +56,8 @@ trait Collect {
 /// Puts what elements declare, one after the other.
 fn put_each<C: Collect>(
     entries: &mut Entries,
-    file: FileId,
-    scope: Option<usize>,
+    file: u32,
+    scope: Option<u32>,
     elements: &[C],
 ) -> Result<(), AllocError>
     requires { IsScopeAmong entries.old scope }
@@ -79,12 +74,7 @@ fn put_each<C: Collect>(
 impl Collect for EnumDesc<'_> {
     ghost declares = { declared_by_enum };
 
-    fn put(
-        &self,
-        entries: &mut Entries,
-        file: FileId,
-        scope: Option<usize>,
-    ) -> Result<(), AllocError> {
+    fn put(&self, entries: &mut Entries, file: u32, scope: Option<u32>) -> Result<(), AllocError> {
         let place = self.place;
         let location = Location { file, place };
         entries.push(scope, self.name.as_str(), location, Some(NameKind::Enum))?;
@@ -96,12 +86,7 @@ impl Collect for EnumDesc<'_> {
 impl Collect for ServiceDesc<'_> {
     ghost declares = { declared_by_service };
 
-    fn put(
-        &self,
-        entries: &mut Entries,
-        file: FileId,
-        scope: Option<usize>,
-    ) -> Result<(), AllocError> {
+    fn put(&self, entries: &mut Entries, file: u32, scope: Option<u32>) -> Result<(), AllocError> {
         let place = self.place;
         let location = Location { file, place };
         let inside = entries.push(scope, self.name.as_str(), location, Some(NameKind::Service))?;
@@ -112,8 +97,8 @@ impl Collect for ServiceDesc<'_> {
 /// Puts a message and all that stands in it.
 fn put_message(
     entries: &mut Entries,
-    file: FileId,
-    scope: Option<usize>,
+    file: u32,
+    scope: Option<u32>,
     message: &MessageDesc,
 ) -> Result<(), AllocError>
     requires { IsScopeAmong entries.old scope }
@@ -140,12 +125,7 @@ fn put_message(
 impl Collect for MessageDesc<'_> {
     ghost declares = { λ scope message. declared_by_message message scope };
 
-    fn put(
-        &self,
-        entries: &mut Entries,
-        file: FileId,
-        scope: Option<usize>,
-    ) -> Result<(), AllocError> {
+    fn put(&self, entries: &mut Entries, file: u32, scope: Option<u32>) -> Result<(), AllocError> {
         put_message(entries, file, scope, self)
     }
 }
@@ -153,9 +133,9 @@ impl Collect for MessageDesc<'_> {
 /// Puts a file's package, which is the scope of what the file declares.
 fn put_package(
     entries: &mut Entries,
-    file: FileId,
+    file: u32,
     package: &Option<PackageDescriptor>,
-) -> Result<Option<usize>, AllocError>
+) -> Result<Option<u32>, AllocError>
     ensures put { OnOk result (entries.new ≡ entries.old ++ package_occurrences file «package».now) }
     ensures scope { IfOk result (IsScopeAmong entries.new) }
     ensures named { IfOk result (λ scope. scope_name entries.new scope ≡ file_scope «package».now) }
@@ -170,8 +150,8 @@ fn put_package(
 /// Puts what a file declares, but for its package.
 fn put_declared(
     entries: &mut Entries,
-    file: FileId,
-    scope: Option<usize>,
+    file: u32,
+    scope: Option<u32>,
     desc: &FileDesc,
 ) -> Result<(), AllocError>
     requires { IsScopeAmong entries.old scope }
@@ -183,7 +163,7 @@ fn put_declared(
     put_each(entries, file, scope, desc.services.as_slice())
 }
 
-fn put_file(entries: &mut Entries, file: FileId, desc: &FileDesc) -> Result<(), AllocError>
+fn put_file(entries: &mut Entries, file: u32, desc: &FileDesc) -> Result<(), AllocError>
     ensures { OnOk result (entries.new ≡ entries.old ++ occurrences_of file desc.now) }
 {
     let scope = put_package(entries, file, &desc.package)?;
@@ -203,7 +183,7 @@ pub(crate) fn collect_files(
 {
     let mut entries = Entries::new(alloc);
     for (k, desc) in files.iter().enumerate() {
-        put_file(&mut entries, first + k, desc)?;
+        put_file(&mut entries, narrow(first + k)?, desc)?;
         if entries.len() as u64 > limit {
             return Ok(None);
         }

@@ -1,8 +1,8 @@
 //! The entries of an index: the occurrences of full names, whose own names stand in one text.
 
-ghost use Rattle.std.specs.Prelude.{◌≡◌, ◌≢◌, ◌⊎◌, ℕ, ◌<◌, ◌++◌, ◌∷◌, [], List, length, IfOk, IsUtf8, MatchOption, None, OnErr, OnOk, map, take, All};
+ghost use Rattle.std.specs.Prelude.{◌≡◌, ◌≢◌, ◌⊎◌, ℕ, ◌<◌, ◌++◌, ◌∷◌, [], List, length, IfOk, IsUtf8, MatchOption, None, OnOk, map};
 ghost use Rattle.std.specs.List.{fold};
-ghost use Rattle.proto_names.specs.Entries.{IsFrontText, IsScopeAmong, prefix_entry, scope_name};
+ghost use Rattle.proto_names.specs.Entries.{AreEntriesOf, IsScopeAmong, occurrences_of_entries, scope_name};
 ghost use Rattle.proto_names.specs.Hashes.{hash_of, hash_step, rolling_hash};
 ghost use Rattle.proto_names.specs.Occurrences.{package_occurrence};
 ghost use Rattle.proto_names.specs.Order.{location_of};
@@ -10,7 +10,7 @@ ghost use Rattle.proto_names.specs.Runs.{at};
 ghost use Rattle.proto_names.specs.Scopes.{prefixes};
 ghost use Rattle.proto_desc.specs.DeclaredNames.{scoped};
 
-use crate::entry::{Entry, FIRST_LOCATION, Location};
+use crate::entry::{Entry, FIRST_LOCATION, Location, narrow};
 use crate::hashing::{hash_before, spread, with_byte, with_text};
 use crate::name_bytes::NameBytes;
 use crate::scope::shorter_prefix;
@@ -40,10 +40,10 @@ impl Model for Entries {
 }
 
 /// What an entry that stands in no scope has as the position of its scope's entry.
-const NO_SCOPE: usize = usize::MAX;
+const NO_SCOPE: u32 = u32::MAX;
 
 /// The scope that an entry of this name is for what stands in it: none, where its full name is empty.
-fn as_scope(position: usize, scope: Option<usize>, name: &str) -> Option<usize>
+fn as_scope(position: u32, scope: Option<u32>, name: &str) -> Option<u32>
     ensures { MatchOption result ((scope ≡ None) × (name.now ≡ []))
         (λ k. (k ≡ position) × ((scope ≢ None) ⊎ (name.now ≢ []))) }
 {
@@ -58,21 +58,27 @@ fn as_scope(position: usize, scope: Option<usize>, name: &str) -> Option<usize>
 /// starts there. Where there is no memory, some may be put.
 fn put_prefixes(
     entries: &mut Vec<Entry>,
-    start: usize,
+    start: u32,
     name: &str,
     location: Location,
 ) -> Result<(), AllocError>
-    ensures put { OnOk result (entries.new.items ≡ entries.old.items
-        ++ map (prefix_entry start location) (prefixes name.now)) }
-    ensures kept { take (length entries.old.items) entries.new.items ≡ entries.old.items }
-    ensures fronts { OnOk result (All (IsFrontText name.now) (prefixes name.now)) }
+    ensures kept { (old : List ℕ) → start ≡ length old → AreEntriesOf (old ++ name.now) entries.old.items
+        → AreEntriesOf (old ++ name.now) entries.new.items }
+    ensures put { OnOk result ((old : List ℕ) → start ≡ length old
+        → AreEntriesOf (old ++ name.now) entries.old.items
+        → occurrences_of_entries (old ++ name.now) entries.new.items
+        ≡ occurrences_of_entries (old ++ name.now) entries.old.items
+        ++ map (package_occurrence location.file location.place) (prefixes name.now)) }
 {
     let mut prefix = name;
     let mut rolling = with_text(0, name);
     loop {
+        let len = narrow(prefix.len())?;
+        // So no entry before this one has the position that stands for no scope.
+        narrow(entries.len())?;
         entries.push(Entry {
             start,
-            len: prefix.len(),
+            len,
             scope: NO_SCOPE,
             location,
             rolling,
@@ -84,26 +90,6 @@ fn put_prefixes(
         rolling = hash_before(rolling, &prefix.as_bytes()[shorter.len()..]);
         prefix = shorter;
     }
-}
-
-/// As `put_prefixes`, but where there is no memory none is put.
-fn push_prefixes(
-    entries: &mut Vec<Entry>,
-    start: usize,
-    name: &str,
-    location: Location,
-) -> Result<(), AllocError>
-    ensures put { OnOk result (entries.new.items ≡ entries.old.items
-        ++ map (prefix_entry start location) (prefixes name.now)) }
-    ensures fronts { OnOk result (All (IsFrontText name.now) (prefixes name.now)) }
-    ensures unchanged { OnErr result (entries.new.items ≡ entries.old.items) }
-{
-    let len = entries.len();
-    let put = put_prefixes(entries, start, name, location);
-    if put.is_err() {
-        entries.truncate(len);
-    }
-    put
 }
 
 impl Entries {
@@ -118,13 +104,13 @@ impl Entries {
     }
 
     /// The rolling hash of what stands before a name in a scope.
-    fn hash_before_name(&self, scope: Option<usize>) -> u32
+    fn hash_before_name(&self, scope: Option<u32>) -> u32
         requires { IsScopeAmong self.now scope }
         ensures { (name : List ℕ) → fold hash_step result name
             ≡ rolling_hash (scoped (scope_name self.now scope) name) }
     {
         match scope {
-            Some(position) => with_byte(self.entries[position].rolling, b'.'),
+            Some(position) => with_byte(self.entries[position as usize].rolling, b'.'),
             None => 0,
         }
     }
@@ -135,16 +121,16 @@ impl Entries {
         &mut self,
         name: &str,
         location: Location,
-    ) -> Result<Option<usize>, AllocError>
+    ) -> Result<Option<u32>, AllocError>
         ensures put { OnOk result (self.new ≡ self.old
             ++ map (package_occurrence location.file location.place) (prefixes name.now)) }
         ensures scope { IfOk result (IsScopeAmong self.new) }
         ensures named { IfOk result (λ inside. scope_name self.new inside ≡ name.now) }
     {
-        let start = self.text.len();
+        let start = narrow(self.text.len())?;
+        let position = narrow(self.entries.len())?;
         self.text.push_str(name)?;
-        let position = self.entries.len();
-        push_prefixes(&mut self.entries, start, name, location)?;
+        put_prefixes(&mut self.entries, start, name, location)?;
         Ok(as_scope(position, None, name))
     }
 
@@ -152,11 +138,11 @@ impl Entries {
     /// gives the new entry as a scope, which is none where its full name is empty.
     pub(crate) fn push(
         &mut self,
-        scope: Option<usize>,
+        scope: Option<u32>,
         name: &str,
         location: Location,
         kind: Option<NameKind>,
-    ) -> Result<Option<usize>, AllocError>
+    ) -> Result<Option<u32>, AllocError>
         requires { IsScopeAmong self.old scope }
         ensures put { OnOk result (self.new ≡ self.old ++ record {
           name = scoped (scope_name self.old scope) name.now;
@@ -169,12 +155,14 @@ impl Entries {
             ≡ scoped (scope_name self.old scope) name.now) }
     {
         let rolling = with_text(self.hash_before_name(scope), name);
-        let start = self.text.len();
+        let start = narrow(self.text.len())?;
+        let len = narrow(name.len())?;
+        let position = narrow(self.entries.len())?;
         self.text.push_str(name)?;
-        let inside = as_scope(self.entries.len(), scope, name);
+        let inside = as_scope(position, scope, name);
         self.entries.push(Entry {
             start,
-            len: name.len(),
+            len,
             scope: scope.unwrap_or(NO_SCOPE),
             location,
             rolling,
@@ -206,8 +194,8 @@ impl Entries {
         let Some(entry) = self.entries.get(position) else {
             return NameBytes::empty();
         };
-        let scope = if entry.scope < position {
-            ScopeBefore::Entry(self, entry.scope)
+        let scope = if (entry.scope as usize) < position {
+            ScopeBefore::Entry(self, entry.scope as usize)
         } else {
             ScopeBefore::Nothing
         };

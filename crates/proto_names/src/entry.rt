@@ -1,16 +1,28 @@
 //! An entry of an index: a full name in a file.
 
-ghost use Rattle.std.specs.Prelude.{◌≡◌};
+ghost use Rattle.std.specs.Prelude.{◌≡◌, ◌<◌, ◌^◌, IfOk, OnOk};
 ghost use Rattle.proto_names.specs.Entries.{own_name};
 
 use proto_base::Place;
 use proto_desc::name_kind::NameKind;
-use proto_links::FileId;
+use std::alloc::AllocError;
 
-/// A place in one of the files. The order is that of the fields.
+/// A number of bytes, entries or files in the 32 bits that an entry has for it. There is no memory for what comes to 2^32 or
+/// more, as no files within the standard limits do.
+pub(crate) fn narrow(number: usize) -> Result<u32, AllocError>
+    ensures same { IfOk result (λ narrow. narrow ≡ number) }
+    ensures fits { OnOk result (number < 2 ^ 32) }
+{
+    match u32::try_from(number) {
+        Ok(narrow) => Ok(narrow),
+        Err(_) => Err(AllocError),
+    }
+}
+
+/// A place in one of the files, which has a position among all. The order is that of the fields.
 #[derive(Clone, Copy, PartialEq, Eq, PartialOrd, Ord)]
 pub(crate) struct Location {
-    pub(crate) file: FileId,
+    pub(crate) file: u32,
     pub(crate) place: Place,
 }
 
@@ -25,11 +37,11 @@ pub(crate) const FIRST_LOCATION: Location = Location {
 #[derive(Clone, Copy)]
 pub(crate) struct Entry {
     /// Where the own name starts in the text of all own names, in bytes.
-    pub(crate) start: usize,
+    pub(crate) start: u32,
     /// How many bytes the own name has.
-    pub(crate) len: usize,
+    pub(crate) len: u32,
     /// The position of the scope's entry; where none stands there before this one, there is no scope.
-    pub(crate) scope: usize,
+    pub(crate) scope: u32,
     pub(crate) location: Location,
     /// The rolling hash of the full name.
     pub(crate) rolling: u32,
@@ -43,7 +55,7 @@ impl Entry {
     pub(crate) fn own_name<'t>(&self, text: &'t [u8]) -> &'t [u8]
         ensures { result.now ≡ own_name text.now self.now }
     {
-        let behind = &text[self.start.min(text.len())..];
-        &behind[..self.len.min(behind.len())]
+        let behind = &text[(self.start as usize).min(text.len())..];
+        &behind[..(self.len as usize).min(behind.len())]
     }
 }

@@ -1,9 +1,8 @@
 //! The index of the names of files.
 
-ghost use Rattle.std.specs.Prelude.{◌≡◌, ◌≢◌, ◌↔◌, ℕ, ◌<◌, List, flat_map, map, Err, IfOk, IfSome, MatchOption, None, Some, Contains, string_bytes, length, IsPermutation, IsSorted};
+ghost use Rattle.std.specs.Prelude.{◌≡◌, ℕ, ◌<◌, flat_map, map, Err, IfOk, IfSome, None, Some, Contains, string_bytes, length, IsPermutation, IsSorted};
 ghost use Rattle.std.specs.Cmp.Lexicographic.{slice_cmp};
 ghost use Rattle.std.specs.Ordering.{nat_cmp};
-ghost use Rattle.proto_desc.specs.DeclaredNames.{scoped};
 ghost use Rattle.proto_names.specs.Index.{Indexes, services_of};
 ghost use Rattle.proto_names.specs.Shares.{IsFirstOf, services_in, table_of, twice_of};
 ghost use Rattle.proto_names.specs.Repeated.{AreDeclaredOnce, IsRepeated};
@@ -134,7 +133,8 @@ impl NameIndex {
     ///
     /// `TooMany` where more occurs than the limit of names, else `At` the first occurrence, by file and place, with
     /// another one of its name that comes no later, where not both are packages. `NoMemory` comes only where the
-    /// allocator had none.
+    /// allocator had none, or where files, entries or the bytes of names come to 2^32, as no files within the standard
+    /// limits do.
     pub fn build<R>(rt: &R, files: &[FileDesc], limits: &Limits) -> Result<NameIndex, NameError>
     where
         R: Threads + AllocGlobal + Sync,
@@ -168,7 +168,7 @@ impl NameIndex {
             return Err(NameError::TooMany);
         };
         if let Some(location) = first_of(&shares) {
-            return Err(NameError::At(location.file, location.place));
+            return Err(NameError::At(location.file as FileId, location.place));
         }
         let (tables, services) = taken_apart(alloc, shares)?;
         let parts = ScopeParts::for_files(alloc, files, &tables)?;
@@ -194,7 +194,7 @@ impl NameIndex {
             .names;
         for position in 0..names.len() {
             if let Some(kind) = names.kind(position) {
-                let file = names.location(position).file;
+                let file = names.location(position).file as FileId;
                 return Some(Defined { kind, file });
             }
         }

@@ -54,7 +54,7 @@ fn insert_files(files: &mut BitMatrix, row: usize, names: &Names)
     ensures { HasFilesOf files.old row names.now files.new }
 {
     for position in 0..names.len() {
-        files.insert(row, names.location(position).file);
+        files.insert(row, names.location(position).file as usize);
     }
 }
 

@@ -43,7 +43,7 @@ fn is_seen(links: &Links, file: FileId, role: Role, names: &Names, position: usi
     ensures { IsTrue result ↔ (IsTrue (fits role (at names.now position).kind)
         × SeenBy links.now file (at names.now position).file) }
 {
-    role.fits(names.kind(position)) && links.sees(file, names.location(position).file)
+    role.fits(names.kind(position)) && links.sees(file, names.location(position).file as FileId)
 }
 
 /// Whether a file sees one of the entries, of a kind that fits: each of them is looked at.
