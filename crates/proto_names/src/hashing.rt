@@ -117,6 +117,13 @@ impl<'n> HashedName<'n> {
         }
     }
 
+    /// The hash of the name.
+    pub(crate) fn hash(self) -> u32
+        ensures { result ≡ hash_of self.entry.text.now }
+    {
+        spread(self.rolling)
+    }
+
     /// The rolling hash of the name behind a text that has this one.
     pub(crate) fn behind(self, before: u32) -> u32
         ensures { result ≡ fold hash_step before self.entry.text.now }

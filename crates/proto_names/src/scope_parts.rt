@@ -60,7 +60,7 @@ fn slots_for(tables: &[EntryTable]) -> usize
     for table in tables {
         count = count.saturating_add(table.names().len());
     }
-    count.max(LEAST_SLOTS).min(MOST_SLOTS)
+    count.clamp(LEAST_SLOTS, MOST_SLOTS)
 }
 
 /// Sets the bits of the scopes among names.
@@ -103,7 +103,8 @@ impl ScopeParts {
         files: &[FileDesc],
         tables: &[EntryTable],
     ) -> Result<Option<ScopeParts>, AllocError>
-        ensures { IfOk result (λ found. IfSome found (λ parts. TellsParts (all_of tables.now) parts.bits parts.slots)) }
+        ensures { IfOk result (λ found. IfSome found
+            (λ parts. TellsParts (all_of tables.now) parts.bits parts.slots)) }
     {
         for file in files {
             if file.scope().len() >= LONG_PACKAGE {
@@ -119,8 +120,7 @@ impl ScopeParts {
         ensures { result ≡ tells_part self.now.bits self.now.slots (scoped scope.entry.text.now [])
             name.entry.text.now }
     {
-        let part = spread(name.behind(0));
-        self.bits
-            .contains(0, column_of(self.slots, part, scope.before_name))
+        let column = column_of(self.slots, name.hash(), scope.before_name);
+        self.bits.contains(0, column)
     }
 }

@@ -35,7 +35,8 @@ impl Model for Tables {
     ghost view = { λ tables. all_of tables.tables.items };
 
     ghost invariant = { λ tables. AreInShares tables.tables.items
-        × IfSome tables.parts (λ parts. TellsParts (all_of tables.tables.items) parts.bits parts.slots) };
+        × IfSome tables.parts
+        (λ parts. TellsParts (all_of tables.tables.items) parts.bits parts.slots) };
 }
 
 impl Tables {
