@@ -38,6 +38,7 @@ pub use full_name::name_in;
 pub use hashing::name_hash;
 pub use index::{Defined, NameError, NameIndex};
 pub use resolve::{FoundInside, FoundType, ResolveError, Resolved, Want, resolution_is_unique};
+pub use scope::Scope;
 pub use scopes::Scopes;
 pub use starts::slot_of;
 pub use threading::Threading;

@@ -5,7 +5,7 @@ ghost use Rattle.proto_desc.specs.DeclaredNames.{scoped};
 ghost use Rattle.proto_names.specs.Hashes.{hash_of, rolling_hash};
 ghost use Rattle.proto_names.specs.Scopes.{IsCandidate, prefixes};
 
-use crate::hashing::{HashedName, hash_before, spread, with_byte, with_text, without_byte};
+use crate::hashing::{HashedName, hash_before, spread, with_byte, with_bytes, without_byte};
 
 /// The longest prefix of a text that a dot follows, if there is a dot.
 pub(crate) fn shorter_prefix(text: &str) -> Option<&str>
@@ -32,6 +32,13 @@ fn parent(scope: &str) -> &str
     }
 }
 
+/// Where the names in a scope start in their full names, in bytes.
+fn start_inside(scope: &str) -> usize
+    ensures { result ≡ length (scoped scope.now []) }
+{
+    if scope.is_empty() { 0 } else { scope.len() + 1 }
+}
+
 /// A scope. It keeps the rolling hash of what stands before a name in it, which is computed once for all names that are
 /// looked up in it (language guide, "Packages and Name Resolution").
 #[derive(Clone, Copy)]
@@ -47,20 +54,36 @@ impl<'s> Scope<'s> {
     pub fn new(text: &'s str) -> Scope<'s>
         ensures { result.text.now ≡ text.entry.now }
     {
-        let rolling = with_text(0, text);
-        let before_name = if text.is_empty() {
-            rolling
-        } else {
-            with_byte(rolling, b'.')
-        };
-        Scope { text, before_name }
+        Scope::top().inside(text)
     }
 
     /// The scope of what stands in no package.
     pub(crate) fn top() -> Scope<'static>
         ensures { result.text.now ≡ [] }
     {
-        Scope::new("")
+        Scope {
+            text: "",
+            before_name: 0,
+        }
+    }
+
+    /// The scope of a full name that stands in this one, or is that of this one. Only what stands behind this one is hashed.
+    pub(crate) fn inside<'t>(self, text: &'t str) -> Scope<'t>
+        requires { IsCandidate self.text.now text.now }
+        ensures { result.text.now ≡ text.entry.now }
+    {
+        if text.len() <= self.text.len() {
+            return Scope {
+                text,
+                before_name: self.before_name,
+            };
+        }
+        let start = start_inside(self.text);
+        let rolling = with_bytes(self.before_name, &text.as_bytes()[start..]);
+        Scope {
+            text,
+            before_name: with_byte(rolling, b'.'),
+        }
     }
 
     /// The hash of the name in the scope, without a walk over its bytes.
@@ -79,9 +102,8 @@ impl<'s> Scope<'s> {
             → (c ≡ self.entry.text.now) ⊎ IsCandidate c result.text.now }
     {
         let text = parent(self.text);
-        let start = if text.is_empty() { 0 } else { text.len() + 1 };
         let rolling = without_byte(self.before_name, b'.');
-        let before_name = hash_before(rolling, &self.text.as_bytes()[start..]);
+        let before_name = hash_before(rolling, &self.text.as_bytes()[start_inside(text)..]);
         Scope { text, before_name }
     }
 }

@@ -25,13 +25,17 @@ impl<'s> Model for Scopes<'s> {
 
 impl<'s> Scopes<'s> {
     /// The scope of a full name, and those around it that stand in another one around it.
-    pub fn inside(alloc: Global, text: &'s str, outside: &str) -> Result<Scopes<'s>, AllocError>
-        requires { IsCandidate outside.now text.now }
-        ensures { IfOk result (AreScopes text.now (λ c. IsCandidate c outside.now)) }
+    pub fn inside(
+        alloc: Global,
+        text: &'s str,
+        outside: Scope<'_>,
+    ) -> Result<Scopes<'s>, AllocError>
+        requires { IsCandidate outside.text.now text.now }
+        ensures { IfOk result (AreScopes text.now (λ c. IsCandidate c outside.entry.text.now)) }
     {
         let mut scopes = Vec::new(alloc);
-        let mut inner = Scope::new(text);
-        while inner.text.len() > outside.len() {
+        let mut inner = outside.inside(text);
+        while inner.text.len() > outside.text.len() {
             scopes.push(inner)?;
             inner = inner.parent();
         }
@@ -42,7 +46,7 @@ impl<'s> Scopes<'s> {
     pub fn around(alloc: Global, text: &'s str) -> Result<Scopes<'s>, AllocError>
         ensures { IfOk result (AreScopes text.now IsNoScope) }
     {
-        let mut all = Scopes::inside(alloc, text, "")?;
+        let mut all = Scopes::inside(alloc, text, Scope::top())?;
         all.scopes.push(Scope::top())?;
         Ok(all)
     }

@@ -21,7 +21,7 @@ use proto_desc::message::MessageDesc;
 use proto_desc::options::OptionDescriptor;
 use proto_desc::service::{MethodDesc, ServiceDesc};
 use proto_desc::type_name::TypeReference;
-use proto_names::{FoundType, Scopes, Want, name_in};
+use proto_names::{FoundType, Scope, Scopes, Want, name_in};
 use std::alloc::{AllocError, Global};
 
 /// What a name means of which this was found, where such a type is wanted, with these options.
@@ -56,10 +56,11 @@ pub(crate) struct Spelling<'n> {
 
 impl<'n> Spelling<'n> {
     /// A scope in a package, before any name of it is looked up.
-    fn new(alloc: Global, scope: &'n str, package: &str) -> Result<Spelling<'n>, AllocError>
-        requires { IsCandidate «package».now scope.now }
+    fn new(alloc: Global, scope: &'n str, package: Scope<'_>) -> Result<Spelling<'n>, AllocError>
+        requires { IsCandidate «package».text.now scope.now }
         ensures scope { IfOk result (λ inner. inner.scope.now ≡ scope.now) }
-        ensures ready { (sight : Sight) → sight.«package» ≡ «package».now → IfOk result (IsSpelling sight) }
+        ensures ready { (sight : Sight) → sight.«package» ≡ «package».entry.text.now
+            → IfOk result (IsSpelling sight) }
     {
         Ok(Spelling {
             scope,

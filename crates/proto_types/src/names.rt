@@ -11,7 +11,7 @@ ghost use Rattle.proto_types.specs.Sight.{sight};
 
 use crate::recalled::Recalled;
 use proto_links::{FileId, Links};
-use proto_names::{FoundInside, FoundType, NameIndex, Scopes, name_hash, slot_of};
+use proto_names::{FoundInside, FoundType, NameIndex, Scope, Scopes, name_hash, slot_of};
 use std::alloc::{AllocError, Global};
 use std::marker::Model;
 
@@ -21,7 +21,7 @@ pub(crate) struct FileNames<'i, 'd> {
     index: &'i NameIndex,
     links: &'i Links,
     file: FileId,
-    package: &'d str,
+    package: Scope<'d>,
     /// The package and the scopes around it.
     around: Scopes<'d>,
     /// Names with what they mean in the package, each in the slot of its hash. One more takes the place of the one
@@ -39,13 +39,15 @@ impl<'i, 'd> Model for FileNames<'i, 'd> {
 
     ghost Value = { Sight };
 
-    ghost view = { λ names. sight names.index.now names.links.now names.file names.«package».now };
+    ghost view = { λ names. sight names.index.now names.links.now names.file
+        names.«package».text.now };
 
     ghost invariant = { λ names. (count_of names.links.now ≡ names.index.now.files)
-        × (names.file < names.index.now.files) × AreScopes names.«package».now IsNoScope names.around
+        × (names.file < names.index.now.files) × AreScopes names.«package».text.now IsNoScope
+        names.around
         × (0 < length names.slots.items) × (length names.slots.items ≤ 65_536)
-        × AreKept names.index.now.occurrences (SeenBy names.links.now names.file) names.«package».now
-        names.slots.items };
+        × AreKept names.index.now.occurrences (SeenBy names.links.now names.file)
+        names.«package».text.now names.slots.items };
 }
 
 /// The fewest and the most names that are kept.
@@ -73,15 +75,15 @@ impl<'i, 'd> FileNames<'i, 'd> {
             index,
             links,
             file,
-            package,
+            package: Scope::new(package),
             around,
             slots,
         })
     }
 
-    /// The file's package, empty where it has none.
-    pub(crate) fn package(&self) -> &'d str
-        ensures { result.now ≡ self.now.«package» }
+    /// The scope of the file's package, which is empty where the file has none.
+    pub(crate) fn package(&self) -> Scope<'d>
+        ensures { result.text.now ≡ self.now.«package» }
     {
         self.package
     }

@@ -1,21 +1,16 @@
-use Rattle.proto_names.proofs.Common.{◌≡◌, ◌∙◌, ◌++◌, ◌-◌, [], ap, sym, arith, length, length-drop, drop, take, take_all, scoped, common_steps, rolling_hash}
-use Rattle.proto_names.proofs.Starting.{around_prefix, dotted_hash, dotted_length, rolling_below}
+use Rattle.proto_names.proofs.Common.{◌≡◌, ◌∙◌, ◌++◌, ◌-◌, [], ap, sym, arith, length, length-drop, drop, take, take_all, scoped, rolling_hash}
+use Rattle.proto_names.proofs.Starting.{around_prefix, dotted_hash, rolling_below}
 use Rattle.proto_names.proofs.scope.Scope.parent.Goals as goal
-use Rattle.proto_names.proofs.scope.Scope.parent.Goals.{then-is_empty, else-is_empty}
 
 pub invariant_of-result : goal.invariant_of-result
 invariant_of-result c =
     let s = c.args.self.text.now in
     let outer = c.parent-text.result.now in
-    let start : c.if-is_empty.start ≡ length (scoped outer []) = elim c.if-is_empty.branch [
-      | then-is_empty w ↦ grind (arith, common_steps)
-      | else-is_empty w ↦ grind (arith, common_steps, dotted_length outer)
-    ] in
     let bytes = c.as_bytes.result.now in
-    let k = c.if-is_empty.start in
+    let k = c.start_inside.result in
     let cut = take_all (length bytes - k) (drop k bytes) (omega (arith, length-drop k bytes)) in
     let whole : scoped outer [] ++ take (length bytes - k) (drop k bytes) ≡ s =
-    rw (cut, start, c.as_bytes.ensures.value)
+    rw (cut, c.start_inside.ensures, c.as_bytes.ensures.value)
     (around_prefix outer s c.parent-text.ensures.candidate c.parent-text.ensures.shorter) in
     let rolling = c.without_byte-rolling.ensures (rolling_hash s) (rolling_below s)
     (c.args.self.hashed ∙ dotted_hash s c.requires) in

@@ -8,6 +8,6 @@ returns c =
     let text = c.args.text.now in
     let scopes = c.all.inside.scopes.items in
     let inside = subst (λ (xs : List (List ℕ)). AreScopes text (λ d. IsCandidate d []) xs) (sym c.all.view_is)
-    c.in_ok-all.ensures in
-    rw (c.in_ok-push.ensures.items, map_push text_of scopes c.top.result, c.top.ensures)
+    (rw c.top.ensures at c.in_ok-all.ensures) in
+    rw (c.in_ok-push.ensures.items, map_push text_of scopes c.top-2.result, c.top-2.ensures)
     (listed_around text (texts_of scopes) inside)

@@ -5,7 +5,7 @@ use Rattle.proto_names.specs.Around.{text_of, texts_of}
 use Rattle.proto_names.proofs.scopes.Scopes.inside.Goals as goal
 
 pub loop-inner-init : goal.loop-inner-init
-loop-inner-init c = rw (c.new-scopes.ensures.items, c.new-inner.ensures)
+loop-inner-init c = rw (c.new-scopes.ensures.items, c.inside-inner.ensures)
     (record { listed = none_listed c.args.text.now; within = inr (inl refl); left = c.requires })
 
 pub loop-inner-preserved : goal.loop-inner-preserved
@@ -20,12 +20,12 @@ loop-inner-preserved c =
       listed = listed_more text inner.text.now (λ d. IsCandidate d outer) (texts_of scopes) so_far.listed so_far.within
           (λ d is. omega (arith, candidate_length d outer is, around.shorter)) around.next;
       within = candidate_trans outer inner.text.now text around.candidate so_far.within;
-      left = elim (around.next c.args.outside.now so_far.left) [
+      left = elim (around.next c.args.outside.text.now so_far.left) [
         | inl same ↦ absurd (omega (arith, ap length same, c.loop-inner-test.true))
         | inr inside ↦ inside
       ];
     })
 
 pub returns : goal.returns
-returns c = met c.args.text.now c.loop-inner.inner.text.now c.args.outside.now (texts_of c.loop-inner.scopes.items)
+returns c = met c.args.text.now c.loop-inner.inner.text.now c.args.outside.text.now (texts_of c.loop-inner.scopes.items)
     c.loop-inner.invariant.listed c.loop-inner.invariant.left c.loop-inner-test.false

@@ -6,7 +6,7 @@ abbrev pub invariant-loop-inner : goal.invariant-loop-inner
 invariant-loop-inner l = record {
   listed : AreScopes l.text (λ c. IsCandidate c l.inner.text.now) (texts_of l.scopes.items);
   within : IsCandidate l.inner.text.now l.text;
-  left : IsCandidate l.outside l.inner.text.now;
+  left : IsCandidate l.outside.text.now l.inner.text.now;
 }
 
 abbrev pub decreases-loop-inner : goal.decreases-loop-inner

@@ -7,7 +7,7 @@ pub invariant_of-self : goal.invariant_of-self
 invariant_of-self c =
     let names = c.self.inside in
     let (links, file, around, some, most, kept) = c.self.invariant in
-    let found = c.find_type-found.ensures names.package.now around in
+    let found = c.find_type-found.ensures names.package.text.now around in
     let slots = names.slots.items in
     let one : Recalled = record { spelled = c.args.spelled; found = c.find_type-found.result } in
     let size = length-set slots c.slot_of-slot.result (Some one) in (
@@ -16,6 +16,6 @@ invariant_of-self c =
       around,
       rw size some,
       rw size most,
-      kept_more names.index.now.occurrences (SeenBy names.links.now names.file) names.package.now slots
+      kept_more names.index.now.occurrences (SeenBy names.links.now names.file) names.package.text.now slots
           c.slot_of-slot.result one kept found,
     )
