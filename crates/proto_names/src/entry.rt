@@ -8,7 +8,7 @@ use proto_desc::name_kind::NameKind;
 use std::alloc::AllocError;
 
 /// A number of bytes, entries or files in the 32 bits that an entry has for it. There is no memory for what comes to 2^32 or
-/// more, as no files within the standard limits do.
+/// more. No files within the standard limits come to that.
 pub(crate) fn narrow(number: usize) -> Result<u32, AllocError>
     ensures same { IfOk result (λ narrow. narrow ≡ number) }
     ensures fits { OnOk result (number < 2 ^ 32) }

@@ -57,13 +57,6 @@ pub(crate) fn with_text(start: u32, text: &str) -> u32
     with_bytes(start, text.as_bytes())
 }
 
-/// The hash of a name.
-pub fn name_hash(name: &str) -> u32
-    ensures { result ≡ hash_of name.now }
-{
-    spread(with_text(0, name))
-}
-
 /// The inverse of `FACTOR`, modulo 2^32.
 const INVERSE: u64 = 899_433_627;
 

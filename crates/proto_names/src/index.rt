@@ -133,8 +133,8 @@ impl NameIndex {
     ///
     /// `TooMany` where more occurs than the limit of names, else `At` the first occurrence, by file and place, with
     /// another one of its name that comes no later, where not both are packages. `NoMemory` comes only where the
-    /// allocator had none, or where files, entries or the bytes of names come to 2^32, as no files within the standard
-    /// limits do.
+    /// allocator had none, or where files, entries or the bytes of names come to 2^32. No files within the standard
+    /// limits come to that.
     pub fn build<R>(rt: &R, files: &[FileDesc], limits: &Limits) -> Result<NameIndex, NameError>
     where
         R: Threads + AllocGlobal + Sync,

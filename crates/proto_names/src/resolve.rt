@@ -11,7 +11,7 @@ ghost use Rattle.proto_names.specs.Occurrences.{Occurrence};
 ghost use Rattle.proto_names.specs.Resolution.{SeenBy, Decides, IsType, Resolves, ResolvesNowhere, Visible};
 ghost use Rattle.proto_names.specs.SeenAlike.{AreSeenAlike, IsSeen};
 ghost use Rattle.proto_names.specs.Scopes.{IsCandidate};
-ghost use Rattle.proto_names.specs.Steps.{IsDecision, IsFirstDecided, IsFoundAmong, IsFoundIn, IsNoType, NoneDecides, first_part, fits, has_dot};
+ghost use Rattle.proto_names.specs.Steps.{IsDecision, IsFirstDecided, IsFoundAmong, IsFoundIn, IsNoType, NoneDecides, fits};
 ghost use Rattle.proto_names.specs.declared.resolve.ResolveError.TheVariants as errors;
 ghost use Rattle.proto_names.specs.declared.resolve.Want.TheVariants as wants;
 
@@ -20,6 +20,7 @@ use crate::hashing::HashedName;
 use crate::index::NameIndex;
 use crate::scope::Scope;
 use crate::scopes::Scopes;
+use crate::spelled_name::SpelledName;
 use crate::visible::{Role, sees_one, type_among};
 use proto_desc::name_kind::NameKind;
 use proto_links::{FileId, Links};
@@ -96,34 +97,6 @@ impl From<AllocError> for ResolveError {
 
     fn from(_error: AllocError) -> ResolveError {
         ResolveError::NoMemory
-    }
-}
-
-/// A spelled name without a leading dot, taken apart once for all scopes in which it is looked up.
-#[derive(Clone, Copy)]
-struct SpelledName<'n> {
-    text: &'n str,
-    /// What stands before the first dot, or all of it.
-    first: HashedName<'n>,
-    /// Whether more than the first part is spelled.
-    is_compound: bool,
-    ghost parted: { first.text.now ≡ first_part text.now },
-    ghost compound: { is_compound ≡ has_dot text.now },
-}
-
-impl<'n> SpelledName<'n> {
-    fn new(text: &'n str) -> SpelledName<'n>
-        ensures { result.text.now ≡ text.entry.now }
-    {
-        let (first, is_compound) = match text.split_once('.') {
-            Some((first, _)) => (first, true),
-            None => (text, false),
-        };
-        SpelledName {
-            text,
-            first: HashedName::new(first),
-            is_compound,
-        }
     }
 }
 
@@ -223,19 +196,18 @@ impl NameIndex {
         links: &Links,
         file: FileId,
         scopes: &[Scope<'s>],
-        spelled: &str,
+        spelled: SpelledName,
     ) -> Option<(Scope<'s>, Decision)>
         requires links { count_of links.now ≡ self.now.files }
         requires file { file < self.now.files }
         ensures { MatchOption result (NoneDecides self.now.occurrences (SeenBy links.now file)
-            (texts_of scopes.now) spelled.now)
+            (texts_of scopes.now) spelled.entry.text.now)
             (λ inner. IsFirstDecided self.now.occurrences (SeenBy links.now file) (texts_of scopes.now)
-            spelled.now inner.0.text.now × IsDecision self.now.occurrences (SeenBy links.now file)
-            inner.0.text.now spelled.now inner.1) }
+            spelled.entry.text.now inner.0.text.now × IsDecision self.now.occurrences
+            (SeenBy links.now file) inner.0.text.now spelled.entry.text.now inner.1) }
     {
-        let name = SpelledName::new(spelled);
         for scope in scopes {
-            if let Some(decision) = self.decision(links, file, *scope, name) {
+            if let Some(decision) = self.decision(links, file, *scope, spelled) {
                 return Some((*scope, decision));
             }
         }
@@ -249,22 +221,22 @@ impl NameIndex {
         file: FileId,
         inner: Scope<'n>,
         decision: Decision,
-        spelled: &'n str,
+        spelled: SpelledName<'n>,
     ) -> Option<FoundType<'n>>
         requires links { count_of links.now ≡ self.now.files }
         requires file { file < self.now.files }
         requires decided { IsDecision self.now.occurrences (SeenBy links.now file) inner.text.now
-            spelled.now decision }
+            spelled.text.now decision }
         ensures { IsFoundIn self.now.occurrences (SeenBy links.now file) inner.entry.text.now
-            spelled.now result }
+            spelled.entry.text.now result }
     {
         let kind = match decision {
             Decision::Known(kind) => kind,
-            Decision::Scope => self.type_of(links, file, inner, HashedName::new(spelled))?,
+            Decision::Scope => self.type_of(links, file, inner, spelled.whole)?,
         };
         Some(FoundType {
             scope: inner.text,
-            name: spelled,
+            name: spelled.text,
             kind,
         })
     }
@@ -275,12 +247,12 @@ impl NameIndex {
         links: &Links,
         file: FileId,
         scopes: &Scopes<'n>,
-        spelled: &'n str,
+        spelled: SpelledName<'n>,
     ) -> FoundInside<'n>
         requires links { count_of links.now ≡ self.now.files }
         requires file { file < self.now.files }
-        ensures { IsFoundAmong self.now.occurrences (SeenBy links.now file) scopes.now spelled.now
-            result }
+        ensures { IsFoundAmong self.now.occurrences (SeenBy links.now file) scopes.now
+            spelled.entry.text.now result }
     {
         match self.innermost(links, file, &scopes.scopes, spelled) {
             Some((inner, decision)) => {
@@ -297,14 +269,15 @@ impl NameIndex {
         links: &Links,
         file: FileId,
         scopes: &Scopes<'n>,
-        spelled: &'n str,
+        spelled: SpelledName<'n>,
     ) -> Option<FoundType<'n>>
         requires links { count_of links.now ≡ self.now.files }
         requires file { file < self.now.files }
         ensures { (scope : List ℕ) → AreScopes scope IsNoScope scopes.now
-            → IsFound self.now.occurrences (SeenBy links.now file) scope spelled.now result }
+            → IsFound self.now.occurrences (SeenBy links.now file) scope spelled.entry.text.now
+            result }
     {
-        match spelled.strip_prefix('.') {
+        match spelled.text.strip_prefix('.') {
             Some(full) => {
                 let kind = self.type_of(links, file, Scope::top(), HashedName::new(full))?;
                 Some(FoundType {
@@ -327,16 +300,16 @@ impl NameIndex {
         links: &Links,
         file: FileId,
         scopes: &Scopes<'n>,
-        spelled: &'n str,
+        spelled: SpelledName<'n>,
     ) -> FoundInside<'n>
         requires links { count_of links.now ≡ self.now.files }
         requires file { file < self.now.files }
         ensures { (scope outside : List ℕ) → IsCandidate outside scope
             → AreScopes scope (λ c. IsCandidate c outside) scopes.now
-            → IsFoundInside self.now.occurrences (SeenBy links.now file) scope outside spelled.now
-            result }
+            → IsFoundInside self.now.occurrences (SeenBy links.now file) scope outside
+            spelled.entry.text.now result }
     {
-        match spelled.strip_prefix('.') {
+        match spelled.text.strip_prefix('.') {
             Some(_) => FoundInside::Outside,
             None => self.find_among(links, file, scopes, spelled),
         }
@@ -366,8 +339,8 @@ impl NameIndex {
             × Resolves self.now.occurrences (SeenBy links.now file) scope.now spelled.now full
             kinds.Enum) }
     {
-        let scopes = Scopes::around(alloc, scope)?;
-        let Some(found) = self.find_type(links, file, &scopes, spelled) else {
+        let scopes = Scopes::around(alloc, Scope::new(scope))?;
+        let Some(found) = self.find_type(links, file, &scopes, SpelledName::new(spelled)) else {
             return Err(ResolveError::TypeNotFound);
         };
         if !want.allows(found.kind) {

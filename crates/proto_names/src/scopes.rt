@@ -24,6 +24,21 @@ impl<'s> Model for Scopes<'s> {
 }
 
 impl<'s> Scopes<'s> {
+    /// A scope, and those around it that stand in another one around it.
+    fn up_to(alloc: Global, scope: Scope<'s>, outside: Scope<'_>) -> Result<Scopes<'s>, AllocError>
+        requires { IsCandidate outside.text.now scope.text.now }
+        ensures { IfOk result (AreScopes scope.entry.text.now
+            (λ c. IsCandidate c outside.entry.text.now)) }
+    {
+        let mut scopes = Vec::new(alloc);
+        let mut inner = scope;
+        while inner.text.len() > outside.text.len() {
+            scopes.push(inner)?;
+            inner = inner.parent();
+        }
+        Ok(Scopes { scopes })
+    }
+
     /// The scope of a full name, and those around it that stand in another one around it.
     pub fn inside(
         alloc: Global,
@@ -33,20 +48,14 @@ impl<'s> Scopes<'s> {
         requires { IsCandidate outside.text.now text.now }
         ensures { IfOk result (AreScopes text.now (λ c. IsCandidate c outside.entry.text.now)) }
     {
-        let mut scopes = Vec::new(alloc);
-        let mut inner = outside.inside(text);
-        while inner.text.len() > outside.text.len() {
-            scopes.push(inner)?;
-            inner = inner.parent();
-        }
-        Ok(Scopes { scopes })
+        Scopes::up_to(alloc, outside.inside(text), outside)
     }
 
-    /// The scope of a full name, and all around it.
-    pub fn around(alloc: Global, text: &'s str) -> Result<Scopes<'s>, AllocError>
-        ensures { IfOk result (AreScopes text.now IsNoScope) }
+    /// A scope, and all around it.
+    pub fn around(alloc: Global, scope: Scope<'s>) -> Result<Scopes<'s>, AllocError>
+        ensures { IfOk result (AreScopes scope.entry.text.now IsNoScope) }
     {
-        let mut all = Scopes::inside(alloc, text, Scope::top())?;
+        let mut all = Scopes::up_to(alloc, scope, Scope::top())?;
         all.scopes.push(Scope::top())?;
         Ok(all)
     }

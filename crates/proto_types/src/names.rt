@@ -11,7 +11,7 @@ ghost use Rattle.proto_types.specs.Sight.{sight};
 
 use crate::recalled::Recalled;
 use proto_links::{FileId, Links};
-use proto_names::{FoundInside, FoundType, NameIndex, Scope, Scopes, name_hash, slot_of};
+use proto_names::{FoundInside, FoundType, NameIndex, Scope, Scopes, SpelledName, slot_of};
 use std::alloc::{AllocError, Global};
 use std::marker::Model;
 
@@ -69,13 +69,14 @@ impl<'i, 'd> FileNames<'i, 'd> {
         requires file { file < index.now.files }
         ensures { IfOk result (λ names. names ≡ sight index.now links.now file «package».now) }
     {
+        let package = Scope::new(package);
         let around = Scopes::around(alloc, package)?;
-        let slots = vec![in alloc; None; count.max(FEWEST).min(MOST)]?;
+        let slots = vec![in alloc; None; count.clamp(FEWEST, MOST)]?;
         Ok(FileNames {
             index,
             links,
             file,
-            package: Scope::new(package),
+            package,
             around,
             slots,
         })
@@ -89,21 +90,24 @@ impl<'i, 'd> FileNames<'i, 'd> {
     }
 
     /// The type that a name means in the package, if it means one.
-    fn in_package(&mut self, spelled: &'d str) -> Option<FoundType<'d>>
+    fn in_package(&mut self, name: SpelledName<'d>) -> Option<FoundType<'d>>
         ensures same { self.new ≡ self.old }
         ensures found { IsFound self.old.index.occurrences (SeenBy self.old.links self.old.file)
-            self.old.«package» spelled.now result }
+            self.old.«package» name.entry.text.now result }
     {
-        let slot = slot_of(self.slots.len(), name_hash(spelled));
+        let slot = slot_of(self.slots.len(), name.hash());
         if let Some(kept) = self.slots[slot]
-            && kept.spelled == spelled
+            && kept.spelled == name.text
         {
             return kept.found;
         }
         let found = self
             .index
-            .find_type(self.links, self.file, &self.around, spelled);
-        self.slots[slot] = Some(Recalled { spelled, found });
+            .find_type(self.links, self.file, &self.around, name);
+        self.slots[slot] = Some(Recalled {
+            spelled: name.text,
+            found,
+        });
         found
     }
 
@@ -122,12 +126,10 @@ impl<'i, 'd> FileNames<'i, 'd> {
             → IsFound self.old.index.occurrences (SeenBy self.old.links self.old.file) scope
             spelled.now result }
     {
-        match self
-            .index
-            .find_inside(self.links, self.file, scopes, spelled)
-        {
+        let name = SpelledName::new(spelled);
+        match self.index.find_inside(self.links, self.file, scopes, name) {
             FoundInside::Here(found) => found,
-            FoundInside::Outside => self.in_package(spelled),
+            FoundInside::Outside => self.in_package(name),
         }
     }
 }

@@ -15,7 +15,7 @@ returns-in-Some c =
     let inner = c.in-Some.inner.text.now in
     let listed = ap texts_of c.deref.ensures.value ∙ c.scopes.view_is in
     let decides = decision_decides c.args.self.now.occurrences (SeenBy c.args.links.now c.args.file) inner
-    c.args.spelled.now c.in-Some.decision c.in-Some.ensures.1 in
+    c.args.spelled.text.now c.in-Some.decision c.in-Some.ensures.1 in
     rw (← listed) (inner, c.in-Some.ensures.0, decides, c.type_in.ensures)
 
 pub returns-in-None : goal.returns-in-None

@@ -6,7 +6,7 @@ pub loop-scope-preserved : goal.loop-scope-preserved
 loop-scope-preserved c k less decides =
     let scopes = c.args.scopes.now in
     let index = c.loop-scope.scope-index in
-    let spelled = c.new-name.result.text.now in
+    let spelled = c.args.spelled.text.now in
     let item = c.scope-item.result in
     elim (cases_lt k index) [
       | inl low ↦ c.loop-scope.invariant k low decides

@@ -6,4 +6,4 @@ pub returns-in_err-kind-in-Scope : goal.returns-in_err-kind-in-Scope
 returns-in_err-kind-in-Scope c =
     rw c.from_residual.ensures
     (no_type c.args.self.now.occurrences (SeenBy c.args.links.now c.args.file)
-    (scoped c.args.inner.text.now c.args.spelled.now) (rw c.new.ensures at c.in_err-kind-in-Scope.ensures))
+    (scoped c.args.inner.text.now c.args.spelled.text.now) (rw c.args.spelled.entire at c.in_err-kind-in-Scope.ensures))

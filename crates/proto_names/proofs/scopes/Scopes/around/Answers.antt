@@ -5,7 +5,7 @@ use Rattle.proto_names.proofs.scopes.Scopes.around.Goals as goal
 
 pub returns : goal.returns
 returns c =
-    let text = c.args.text.now in
+    let text = c.args.scope.text.now in
     let scopes = c.all.inside.scopes.items in
     let inside = subst (λ (xs : List (List ℕ)). AreScopes text (λ d. IsCandidate d []) xs) (sym c.all.view_is)
     (rw c.top.ensures at c.in_ok-all.ensures) in

@@ -9,7 +9,7 @@ invariant_of-self c =
     let (links, file, around, some, most, kept) = c.self.invariant in
     let found = c.find_type-found.ensures names.package.text.now around in
     let slots = names.slots.items in
-    let one : Recalled = record { spelled = c.args.spelled; found = c.find_type-found.result } in
+    let one : Recalled = record { spelled = c.args.name.text; found = c.find_type-found.result } in
     let size = length-set slots c.slot_of-slot.result (Some one) in (
       links,
       file,

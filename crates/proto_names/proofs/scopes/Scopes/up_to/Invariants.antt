@@ -1,11 +1,11 @@
 use Rattle.proto_names.proofs.Common.{IsCandidate, length}
 use Rattle.proto_names.specs.Around.{AreScopes, texts_of}
-use Rattle.proto_names.proofs.scopes.Scopes.inside.Given as goal
+use Rattle.proto_names.proofs.scopes.Scopes.up_to.Given as goal
 
 abbrev pub invariant-loop-inner : goal.invariant-loop-inner
 invariant-loop-inner l = record {
-  listed : AreScopes l.text (λ c. IsCandidate c l.inner.text.now) (texts_of l.scopes.items);
-  within : IsCandidate l.inner.text.now l.text;
+  listed : AreScopes l.scope.text.now (λ c. IsCandidate c l.inner.text.now) (texts_of l.scopes.items);
+  within : IsCandidate l.inner.text.now l.scope.text.now;
   left : IsCandidate l.outside.text.now l.inner.text.now;
 }
 
