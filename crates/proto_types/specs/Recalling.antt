@@ -1,5 +1,5 @@
 -- Words of private contracts: the names that were looked up last in a scope.
-use Rattle.std.specs.Prelude.{◌≡◌, ◌⊎◌, ℕ, List, [], ◌∷◌, ◌++◌, Option, None, Some, All, Contains}
+use Rattle.std.specs.Prelude.{◌≡◌, ◌⊎◌, ℕ, List, [], ◌∷◌, ◌++◌, Option, None, Some, IfSome, All, Contains}
 use Rattle.proto_base.specs.Least.{spot}
 use Rattle.proto_base.specs.declared.kind.Kind.TheVariants as kind
 use Rattle.proto_base.specs.declared.place.Place.{Place}
@@ -21,6 +21,10 @@ use Rattle.proto_types.specs.declared.meaning.Meaning.TheVariants.{Wrong}
 use Rattle.proto_types.specs.declared.finder.Spelling.{Spelling}
 use Rattle.proto_types.specs.declared.recalled.Recalled.{Recalled}
 use Rattle.proto_types.specs.Sight.{Sight}
+
+-- what a name means in a scope, in a file
+abbrev pub IsFoundIn : Sight → List ℕ → List ℕ → Option FoundType → Type 0
+IsFoundIn here = IsFound here.index.occurrences (SeenBy here.links here.file)
 
 -- names with what they mean in a scope
 abbrev pub AreRecalled : List Occurrence → (ℕ → Type 0) → List ℕ → List Recalled → Type 0
@@ -46,9 +50,10 @@ IsMeaningBy wanted (Some t) place options meaning =
     (Fits wanted t.kind → IsNaming (scoped t.scope.now t.name.now) (type_kind_of t.kind) options meaning)
     × ((Fits wanted t.kind → ⊥) → meaning ≡ Wrong (spot place kind.TypeNotMessage))
 
--- a scope in a file's package, with those around it that stand in the package, and what is recalled of it
+-- a scope in a file's package, with those around it that stand in the package, if they are listed, and what is recalled
+-- of it
 pub record IsSpelling (here : Sight) (inner : Spelling) : Type 0 where
   pub inside : IsCandidate here.«package» inner.scope.now
-  pub around : AreScopes inner.scope.now (λ c. IsCandidate c here.«package») inner.scopes
+  pub around : IfSome inner.scopes (AreScopes inner.scope.now (λ c. IsCandidate c here.«package»))
   pub recalled : AreRecalled here.index.occurrences (SeenBy here.links here.file) inner.scope.now
       inner.recalled.items

@@ -1,11 +1,11 @@
 //! The walk over a descriptor that finds what its names of types mean. It goes on behind a fault, so that the first one by
 //! place is found.
 
-ghost use Rattle.std.specs.Prelude.{◌≡◌, flat_map, IfOk, OnOk};
+ghost use Rattle.std.specs.Prelude.{◌≡◌, flat_map, if◌then◌else◌, IfOk, OnOk};
 ghost use Rattle.proto_desc.specs.DeclaredNames.{file_scope};
 ghost use Rattle.proto_names.specs.Scopes.{IsCandidate};
 ghost use Rattle.proto_types.specs.References.{reference_to, references_of_type, references_of_field, references_by_message, references_of_method, references_of_service, references};
-ghost use Rattle.proto_types.specs.Recalling.{IsMeaningBy, IsSpelling};
+ghost use Rattle.proto_types.specs.Recalling.{IsFoundIn, IsMeaningBy, IsSpelling};
 ghost use Rattle.proto_types.specs.Sight.{Sight};
 ghost use Rattle.proto_types.specs.Steps.{FindsIn, MeansIn};
 
@@ -21,7 +21,7 @@ use proto_desc::message::MessageDesc;
 use proto_desc::options::OptionDescriptor;
 use proto_desc::service::{MethodDesc, ServiceDesc};
 use proto_desc::type_name::TypeReference;
-use proto_names::{FoundType, Scope, Scopes, Want, name_in};
+use proto_names::{FoundType, Scopes, Want, name_in};
 use std::alloc::{AllocError, Global};
 
 /// What a name means of which this was found, where such a type is wanted, with these options.
@@ -49,24 +49,23 @@ fn meaning_by(
 #[derive(Drop)]
 pub(crate) struct Spelling<'n> {
     scope: &'n str,
-    /// The scope, and those around it that stand in the file's package.
-    scopes: Scopes<'n>,
+    /// The scope, and those around it that stand in the file's package. They are listed for the first name that is looked
+    /// up.
+    scopes: Option<Scopes<'n>>,
     recalled: Vec<Recalled<'n>>,
 }
 
 impl<'n> Spelling<'n> {
-    /// A scope in a package, before any name of it is looked up.
-    fn new(alloc: Global, scope: &'n str, package: Scope<'_>) -> Result<Spelling<'n>, AllocError>
-        requires { IsCandidate «package».text.now scope.now }
-        ensures scope { IfOk result (λ inner. inner.scope.now ≡ scope.now) }
-        ensures ready { (sight : Sight) → sight.«package» ≡ «package».entry.text.now
-            → IfOk result (IsSpelling sight) }
+    /// A scope before any name of it is looked up.
+    fn new(alloc: Global, scope: &'n str) -> Spelling<'n>
+        ensures scope { result.scope.now ≡ scope.now }
+        ensures ready { (here : Sight) → IsCandidate here.«package» scope.now → IsSpelling here result }
     {
-        Ok(Spelling {
+        Spelling {
             scope,
-            scopes: Scopes::inside(alloc, scope, package)?,
+            scopes: None,
             recalled: Vec::new(alloc),
-        })
+        }
     }
 }
 
@@ -79,6 +78,31 @@ pub(crate) struct Finder<'i, 'd> {
 }
 
 impl<'i, 'd> Finder<'i, 'd> {
+    /// The type that a name means in a scope, if it means one.
+    fn find<'n>(
+        &mut self,
+        inner: &mut Spelling<'n>,
+        text: &'d str,
+    ) -> Result<Option<FoundType<'n>>, AllocError>
+    where
+        'd: 'n,
+        requires { IsSpelling self.old.names inner.old }
+        ensures same { self.new.names ≡ self.old.names }
+        ensures scope { inner.new.scope.now ≡ inner.old.scope.now }
+        ensures found { IfOk result (IsFoundIn self.old.names inner.old.scope.now text.now) }
+        ensures ready { OnOk result (IsSpelling self.old.names inner.new) }
+    {
+        match &inner.scopes {
+            Some(scopes) => Ok(self.names.find(scopes, text)),
+            None => {
+                let scopes = Scopes::inside(self.alloc, inner.scope, self.names.package())?;
+                let found = self.names.find(&scopes, text);
+                inner.scopes = Some(scopes);
+                Ok(found)
+            }
+        }
+    }
+
     /// What a name means in a scope, where such a type is wanted, with these options.
     fn meaning<'n>(
         &mut self,
@@ -100,7 +124,7 @@ impl<'i, 'd> Finder<'i, 'd> {
         if let Some(one) = recalled_as(&inner.recalled, text) {
             return meaning_by(self.alloc, &mut self.known, one.found, place, want, options);
         }
-        let found = self.names.find(&inner.scopes, text);
+        let found = self.find(inner, text)?;
         let meaning = meaning_by(self.alloc, &mut self.known, found, place, want, options)?;
         let one = Recalled {
             spelled: text,
@@ -160,67 +184,97 @@ impl<'i, 'd> Finder<'i, 'd> {
         }
     }
 
-    fn fields(
+    fn fields<'n>(
         &mut self,
-        scope: &str,
+        inner: &mut Spelling<'n>,
         fields: &'d [FieldDesc],
         found: &mut Found,
     ) -> Result<(), AllocError>
-        requires { IsCandidate self.old.names.«package» scope.now }
+    where
+        'd: 'n,
+        requires { IsSpelling self.old.names inner.old }
         ensures same { self.new.names ≡ self.old.names }
+        ensures scope { inner.new.scope.now ≡ inner.old.scope.now }
         ensures found { OnOk result (FindsIn self.old.names
-            (flat_map (references_of_field scope.now) fields.now) found.old found.new) }
+            (flat_map (references_of_field inner.old.scope.now) fields.now) found.old found.new) }
+        ensures ready { OnOk result (IsSpelling self.old.names inner.new) }
     {
-        if fields.is_empty() {
-            return Ok(());
-        }
-        let mut inner = Spelling::new(self.alloc, scope, self.names.package())?;
         for field in fields {
-            self.field(&mut inner, field, found)?;
+            self.field(inner, field, found)?;
         }
         Ok(())
+    }
+
+    /// The fields of a message that stands in one scope and is another. What a map entry names is searched from where its
+    /// map field stands.
+    fn own_fields<'n, 'm>(
+        &mut self,
+        outer: &mut Spelling<'n>,
+        inner: &mut Spelling<'m>,
+        fields: &'d [FieldDesc],
+        is_map_entry: bool,
+        found: &mut Found,
+    ) -> Result<(), AllocError>
+    where
+        'd: 'n,
+        'd: 'm,
+        requires outer { IsSpelling self.old.names outer.old }
+        requires inner { IsSpelling self.old.names inner.old }
+        ensures same { self.new.names ≡ self.old.names }
+        ensures outer { outer.new.scope.now ≡ outer.old.scope.now }
+        ensures inner { inner.new.scope.now ≡ inner.old.scope.now }
+        ensures found { OnOk result (FindsIn self.old.names (flat_map (references_of_field
+            (if is_map_entry then outer.old.scope.now else inner.old.scope.now)) fields.now) found.old found.new) }
+        ensures outer_ready { OnOk result (IsSpelling self.old.names outer.new) }
+        ensures inner_ready { OnOk result (IsSpelling self.old.names inner.new) }
+    {
+        if is_map_entry {
+            self.fields(outer, fields, found)
+        } else {
+            self.fields(inner, fields, found)
+        }
     }
 
     /// A message in a scope, with all within it.
-    fn message(
+    #[cycle(messages)]
+    fn message<'n>(
         &mut self,
-        scope: &str,
+        outer: &mut Spelling<'n>,
         message: &'d MessageDesc,
         found: &mut Found,
     ) -> Result<(), AllocError>
-        requires { IsCandidate self.old.names.«package» scope.now }
+    where
+        'd: 'n,
+        requires { IsSpelling self.old.names outer.old }
         ensures same { self.new.names ≡ self.old.names }
-        ensures found { OnOk result (FindsIn self.old.names (references_by_message message.now scope.now)
-            found.old found.new) }
+        ensures scope { outer.new.scope.now ≡ outer.old.scope.now }
+        ensures found { OnOk result (FindsIn self.old.names
+            (references_by_message message.now outer.old.scope.now) found.old found.new) }
+        ensures ready { OnOk result (IsSpelling self.old.names outer.new) }
     {
-        let inner = name_in(self.alloc, scope, message.name.as_str())?;
-        // What a map entry names is searched from where its map field stands.
-        let searched = if message.is_map_entry {
-            scope
-        } else {
-            inner.as_str()
-        };
-        self.fields(searched, message.fields.as_slice(), found)?;
-        let inside = inner.as_str();
-        for nested in message.nested.as_slice() {
-            self.message(inside, nested, found)?;
-        }
-        Ok(())
+        let full = name_in(self.alloc, outer.scope, message.name.as_str())?;
+        let mut inner = Spelling::new(self.alloc, full.as_str());
+        let fields = message.fields.as_slice();
+        self.own_fields(outer, &mut inner, fields, message.is_map_entry, found)?;
+        self.messages(&mut inner, message.nested.as_slice(), found)
     }
 
-    fn messages(
+    #[cycle(messages)]
+    fn messages<'n>(
         &mut self,
-        scope: &str,
+        outer: &mut Spelling<'n>,
         messages: &'d [MessageDesc],
         found: &mut Found,
     ) -> Result<(), AllocError>
-        requires { IsCandidate self.old.names.«package» scope.now }
+    where
+        'd: 'n,
+        requires { IsSpelling self.old.names outer.old }
         ensures same { self.new.names ≡ self.old.names }
         ensures found { OnOk result (FindsIn self.old.names
-            (flat_map (λ m. references_by_message m scope.now) messages.now) found.old found.new) }
+            (flat_map (λ m. references_by_message m outer.old.scope.now) messages.now) found.old found.new) }
     {
         for message in messages {
-            self.message(scope, message, found)?;
+            self.message(outer, message, found)?;
         }
         Ok(())
     }
@@ -259,7 +313,7 @@ impl<'i, 'd> Finder<'i, 'd> {
             found.old found.new) }
     {
         let full = name_in(self.alloc, scope, service.name.as_str())?;
-        let mut inside = Spelling::new(self.alloc, full.as_str(), self.names.package())?;
+        let mut inside = Spelling::new(self.alloc, full.as_str());
         for method in service.methods.as_slice() {
             self.method(&mut inside, method, found)?;
         }
@@ -289,7 +343,8 @@ impl<'i, 'd> Finder<'i, 'd> {
         ensures { OnOk result (FindsIn self.old.names (references file.now) found.old found.new) }
     {
         let scope = file.scope();
-        self.messages(scope, file.messages.as_slice(), found)?;
+        let mut outer = Spelling::new(self.alloc, scope);
+        self.messages(&mut outer, file.messages.as_slice(), found)?;
         self.services(scope, file.services.as_slice(), found)
     }
 }

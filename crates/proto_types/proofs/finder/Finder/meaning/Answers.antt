@@ -11,17 +11,15 @@ returns-in-Some-clause-meaning c =
     IfOk-weaker c.meaning_by.result _ _ (λ m by. meaning_by _ _ _ _ _ _ _ _ m named by) c.meaning_by.ensures
 
 pub returns-clause-meaning : goal.returns-clause-meaning
-returns-clause-meaning c =
-    let named = c.find-found.ensures.found c.args.inner.now.scope.now c.requires.inside c.requires.around in
-    meaning_by _ _ _ _ _ _ _ _ _ named c.in_ok-meaning.ensures
+returns-clause-meaning c = meaning_by _ _ _ _ _ _ _ _ _ c.in_ok-found.ensures.found c.in_ok-meaning.ensures
 
 pub returns-clause-ready : goal.returns-clause-ready
 returns-clause-ready c =
-    let inner = c.args.inner.now in
-    let named = c.find-found.ensures.found inner.scope.now c.requires.inside c.requires.around in
+    let inner = c.find.new.inner in
+    let ready = c.in_ok-found.ensures.ready in
     record {
-      inside = c.requires.inside;
-      around = c.requires.around;
-      recalled = recalled_more _ _ inner.scope.now _ inner.recalled.items c.remember.new.recalled.items
-          c.requires.recalled named c.in_ok-remember.ensures;
+      inside = ready.inside;
+      around = ready.around;
+      recalled = recalled_more _ _ inner.scope.now _ inner.recalled.items c.remember.new.recalled.items ready.recalled
+          (rw (← c.in_ok-found.ensures.scope) at c.in_ok-found.ensures.found) c.in_ok-remember.ensures;
     }
