@@ -3,6 +3,7 @@
 ghost use Rattle.std.specs.Prelude.{◌≡◌};
 
 use proto_base::Place;
+use proto_base::text::Text;
 use std::marker::Model;
 
 /// A number, with the place at which it is at fault. Those of an enum are counted from -2^64 on, so that all are numbers
@@ -46,4 +47,30 @@ pub(crate) trait HasText {
     /// Its text and that place, without memory.
     fn marked_text(&self) -> MarkedText<'_>
         ensures { result ≡ mark self.now };
+}
+
+/// A text that is borrowed or owned, with the place at which it is at fault.
+#[derive(Drop)]
+pub(crate) struct PlacedText<'s> {
+    pub(crate) text: Text<'s>,
+    pub(crate) place: Place,
+}
+
+impl<'s> Model for PlacedText<'s> {
+    ghost use Rattle.proto_checks.specs.Marks.{Marked};
+
+    ghost Value = { Marked };
+
+    ghost view = { λ a. record { text = a.text; place = a.place } };
+}
+
+impl<'s> HasText for PlacedText<'s> {
+    ghost mark = { λ text. text };
+
+    fn marked_text(&self) -> MarkedText<'_> {
+        MarkedText {
+            text: self.text.as_str(),
+            place: self.place,
+        }
+    }
 }

@@ -1,14 +1,16 @@
 //! Rules on the names of fields and of enum values: that JSON names differ, and that no reserved name is in use (language
 //! guide, "JSON Mapping", "Reserved Fields").
 
-ghost use Rattle.std.specs.Prelude.{IfOk};
+ghost use Rattle.std.specs.Prelude.{◌≡◌, IfOk, map};
+ghost use Rattle.proto_base.specs.declared.kind.Kind.TheVariants.{JsonNameTwice};
+ghost use Rattle.proto_checks.specs.Marks.{TextTwice};
 ghost use Rattle.proto_checks.specs.Checks.{json_mark, EnumNamesBreak, MessageNamesBreak, names_of};
 ghost use Rattle.proto_base.specs.Least.{IsLeast};
 ghost use Rattle.proto_base.specs.Sets.{Each};
 
 use crate::each::{Check, first_of};
 use crate::least::least_of;
-use crate::marks::{HasText, MarkedText};
+use crate::marks::PlacedText;
 use crate::repeats::first_text_twice;
 use crate::reserved_names::first_reserved_name;
 use proto_base::text::Text;
@@ -18,16 +20,26 @@ use proto_desc::field::FieldDesc;
 use proto_desc::message::MessageDesc;
 use std::alloc::{AllocError, Global};
 
-/// The text of a field is its JSON name.
-impl<'s> HasText for FieldDesc<'s> {
-    ghost mark = { json_mark };
-
-    fn marked_text(&self) -> MarkedText<'_> {
-        MarkedText {
-            text: self.json_name.as_str(),
-            place: self.place,
-        }
+/// The JSON names of fields, each at its field.
+fn json_names<'f>(alloc: Global, fields: &'f [FieldDesc]) -> Result<Vec<PlacedText<'f>>, AllocError>
+    ensures { IfOk result (λ names. names.items ≡ map json_mark fields.now) }
+{
+    let mut names = Vec::with_capacity(alloc, fields.len())?;
+    for field in fields {
+        names.push(PlacedText {
+            text: field.json_name.text(alloc)?,
+            place: field.place,
+        })?;
     }
+    Ok(names)
+}
+
+/// The first field that has the JSON name of an earlier one.
+fn first_json_name_twice(alloc: Global, fields: &[FieldDesc]) -> Result<Option<Spot>, AllocError>
+    ensures { IfOk result (λ first. IsLeast (TextTwice JsonNameTwice (map json_mark fields.now)) first) }
+{
+    let names = json_names(alloc, fields)?;
+    first_text_twice(alloc, Kind::JsonNameTwice, &names)
 }
 
 /// The first value whose name the enum reserves.
@@ -57,7 +69,7 @@ fn own_names_fault(
           enums = enums.now;
         })) first) }
 {
-    let json = first_text_twice(alloc, Kind::JsonNameTwice, fields)?;
+    let json = first_json_name_twice(alloc, fields)?;
     let field = first_reserved_name(alloc, reserved, fields)?;
     let value = first_of(alloc, enums)?;
     Ok(least_of(&[json, field, value]))

@@ -9,55 +9,28 @@ ghost use Rattle.proto_checks.specs.Marks.{TextTwice, ReservedNameUsed};
 ghost use Rattle.proto_checks.specs.NameSets.{HoldsJust};
 ghost use Rattle.proto_checks.specs.Parts.{name_mark};
 
-use crate::marks::{HasText, MarkedText};
+use crate::marks::PlacedText;
 use crate::repeats::{FEW, first_text_twice};
 use proto_base::text::Text;
-use proto_base::{Kind, Place, Spot, lesser};
+use proto_base::{Kind, Spot, lesser};
 use proto_desc::Declares;
 use proto_options::{Reserves, names_listed};
 use proto_tree::text::joined;
 use std::alloc::{AllocError, Global};
 use std::collections::BTreeSet;
-use std::marker::Model;
 
-/// A reserved name. It borrows the text of one literal, and owns that of more.
-#[derive(Drop)]
-pub(crate) struct ReservedName<'s> {
-    text: Text<'s>,
-    place: Place,
-}
-
-impl<'s> Model for ReservedName<'s> {
-    ghost use Rattle.proto_checks.specs.Marks.{Marked};
-
-    ghost Value = { Marked };
-
-    ghost view = { λ a. record { text = a.text; place = a.place } };
-}
-
-impl<'s> HasText for ReservedName<'s> {
-    ghost mark = { λ name. name };
-
-    fn marked_text(&self) -> MarkedText<'_> {
-        MarkedText {
-            text: self.text.as_str(),
-            place: self.place,
-        }
-    }
-}
-
-/// The names that statements reserve.
+/// The names that statements reserve. A name borrows the text of one literal, and owns that of more.
 pub(crate) fn reserved_names<'s, I: Reserves<'s>>(
     alloc: Global,
     items: &[I],
-) -> Result<Vec<ReservedName<'s>>, AllocError>
+) -> Result<Vec<PlacedText<'s>>, AllocError>
     ensures { IfOk result (λ names. names.items
         ≡ map reserved_name (flat_map names_in (flat_map I.reserved_by items.now))) }
 {
     let listed = names_listed(alloc, items)?;
     let mut names = Vec::with_capacity(alloc, listed.len())?;
     for name in listed {
-        names.push(ReservedName {
+        names.push(PlacedText {
             text: joined(alloc, name)?,
             place: name.first.span.start,
         })?;
@@ -68,7 +41,7 @@ pub(crate) fn reserved_names<'s, I: Reserves<'s>>(
 /// The first name that is reserved already.
 pub(crate) fn first_reserved_twice(
     alloc: Global,
-    names: &[ReservedName],
+    names: &[PlacedText],
 ) -> Result<Option<Spot>, AllocError>
     ensures { IfOk result (λ first. IsLeast (TextTwice ReservedNameTwice names.now) first) }
 {

@@ -1,4 +1,5 @@
 pub mod DeclaredNames
+pub mod JsonNames
 pub mod Places
 pub mod Resolved
 pub mod Rules

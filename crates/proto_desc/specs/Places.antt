@@ -19,8 +19,8 @@ use Rattle.proto_desc.specs.declared.type_name.TypeReference.{TypeReference}
 use Rattle.proto_desc.specs.declared.type_name.TypeReference.TheVariants.{Spelled, Resolved}
 
 abbrev pub reference_places : TypeReference → List ℕ
-reference_places (Spelled text place) = place.offset ∷ []
-reference_places (Resolved full_name kind) = []
+reference_places (Spelled place text) = place.offset ∷ []
+reference_places (Resolved kind full_name) = []
 
 abbrev pub kind_places : FieldKind → List ℕ
 kind_places (Scalar s) = []

@@ -14,8 +14,8 @@ use Rattle.proto_desc.specs.declared.message.MessageDesc.TheOpen.{MessageDesc-F}
 use Rattle.proto_desc.specs.declared.message.MessageDesc.TheFolds.{fold-MessageDesc}
 
 abbrev pub reference_resolved : TypeReference → Bool
-reference_resolved (Spelled text place) = false
-reference_resolved (Resolved full_name kind) = true
+reference_resolved (Spelled place text) = false
+reference_resolved (Resolved kind full_name) = true
 
 abbrev pub kind_resolved : FieldKind → Bool
 kind_resolved (Scalar s) = true

@@ -1,5 +1,6 @@
 //! Enums (`EnumDescriptorProto`, `EnumValueDescriptorProto`).
 
+use crate::identifier::Identifier;
 use crate::options::OptionDescriptor;
 use crate::whole_number::WholeNumber;
 use proto_base::Place;
@@ -9,7 +10,7 @@ use proto_base::text::Text;
 /// A value of an enum.
 #[derive(Drop)]
 pub struct ValueDesc<'s> {
-    pub name: Text<'s>,
+    pub name: Identifier<'s>,
     pub place: Place,
     pub number: WholeNumber,
     pub options: Row<OptionDescriptor<'s>>,

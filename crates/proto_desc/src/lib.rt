@@ -8,8 +8,11 @@ mod declared_name;
 pub mod enumeration;
 pub mod field;
 pub mod file;
+pub mod identifier;
+pub mod json_name;
 pub mod message;
 pub mod name_kind;
+mod narrowing;
 pub mod oneof;
 pub mod options;
 mod resolved;
@@ -19,4 +22,5 @@ pub mod type_name;
 pub mod whole_number;
 
 pub use declared_name::{DeclaredName, Declares};
+pub use narrowing::narrow;
 pub use resolved::is_resolved;

@@ -20,6 +20,7 @@ pub struct ReservedRange {
 pub struct MessageDesc<'s> {
     pub name: Text<'s>,
     pub place: Place,
+    pub is_map_entry: bool,
     pub fields: Row<FieldDesc<'s>>,
     pub nested: Row<MessageDesc<'s>>,
     pub enums: Row<EnumDesc<'s>>,
@@ -27,5 +28,4 @@ pub struct MessageDesc<'s> {
     pub reserved_ranges: Row<ReservedRange>,
     pub reserved_names: Row<Text<'s>>,
     pub options: Row<OptionDescriptor<'s>>,
-    pub is_map_entry: bool,
 }

@@ -14,6 +14,6 @@ pub enum OptionValue<'s> {
 #[derive(Drop)]
 pub struct OptionDescriptor<'s> {
     pub number: u32,
-    pub value: OptionValue<'s>,
     pub place: Place,
+    pub value: OptionValue<'s>,
 }

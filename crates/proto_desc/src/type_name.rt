@@ -11,17 +11,17 @@ pub enum TypeKind {
     Enum,
 }
 
-/// The name of a message or an enum.
+/// The name of a message or an enum. What is small stands first, beside the number that tells the variants apart.
 #[derive(Drop)]
 pub enum TypeReference<'s> {
     /// As the source spells it, with its dots, at its first token.
     Spelled {
-        text: Text<'s>,
         place: Place,
+        text: Text<'s>,
     },
     /// By its full name.
     Resolved {
-        full_name: AbsoluteName,
         kind: TypeKind,
+        full_name: AbsoluteName,
     },
 }

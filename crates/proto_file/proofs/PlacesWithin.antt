@@ -274,7 +274,7 @@ module _ (region : ℕ → Type 0) where
         fields_within full real _ is all.1,
       )
   fields_within full real made (message_item.Map m ∷ is) all =
-      let entry = Named (Resolved (inner full (entry_name_of m.declarator.name.text)) type_kind.Message) in (
+      let entry = Named (Resolved type_kind.Message (inner full (entry_name_of m.declarator.name.text))) in (
         described_within m.declarator Repeated entry None false (rw item_map at all.0).1.1 tt,
         fields_within full real made is all.1,
       )

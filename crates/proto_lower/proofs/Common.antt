@@ -13,7 +13,7 @@ pub use Rattle.proto_lower.specs.Enums.{value_desc, lowered_enum}
 pub use Rattle.proto_lower.specs.Fields.{is_optional, real_count, fields_from, inner, member_at}
 pub use Rattle.proto_lower.specs.Laws.{fields_in, source_oneofs, fields_of, oneofs_of, IsOptionalBehind, index_behind, names_before, has_index}
 pub use Rattle.proto_lower.specs.Messages.{all_fields, lowered_message, message_of, nested_of, nested_row}
-pub use Rattle.proto_lower.specs.Names.{first_free, with_underscore, behind_letters, letters_behind, raised, json_name_of}
+pub use Rattle.proto_lower.specs.Names.{first_free, with_underscore, behind_letters}
 pub use Rattle.proto_lower.specs.Oneofs.{names_of_oneofs, made_named, with_one, with_made, real_named, real_oneofs, names_of_fields}
 pub use Rattle.proto_lower.specs.Options.{option_under, option_at, option_by, options_of}
 pub use Rattle.proto_lower.specs.Reserveds.{enum_range}

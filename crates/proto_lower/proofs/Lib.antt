@@ -1,7 +1,6 @@
 mod Common
 pub mod Nested
 mod NoneMade
-mod Raised
 pub mod Free
 mod OptionRows
 mod OptionsRise

@@ -35,7 +35,7 @@ type_place None n = n.first.span.start
 type_place (Some dot) n = dot.start
 
 abbrev pub reference_of : TypeName → TypeReference
-reference_of t = Spelled (spelled t.dot t.name) (type_place t.dot t.name)
+reference_of t = Spelled (type_place t.dot t.name) (spelled t.dot t.name)
 
 abbrev pub kind_of : FieldType → FieldKind
 kind_of (field_type.Scalar s span) = Scalar s
@@ -74,7 +74,7 @@ inner scope name = scope ++ 46 ∷ name
 -- a map field of the message with this full name
 abbrev pub map_described : List ℕ → MapField → FieldDesc
 map_described full m = described m.declarator Repeated
-    (Named (Resolved (inner full (entry_name_of m.declarator.name.text)) type_kind.Message)) None false
+    (Named (Resolved type_kind.Message (inner full (entry_name_of m.declarator.name.text)))) None false
 
 -- a member of the oneof at this position
 abbrev pub member_at : ℕ → OneofField → FieldDesc

@@ -8,7 +8,7 @@ use Rattle.proto_desc.specs.declared.options.OptionDescriptor.{OptionDescriptor}
 use Rattle.proto_desc.specs.declared.options.OptionValue.{OptionValue}
 use Rattle.proto_desc.specs.declared.rules.Element.{Element}
 use Rattle.proto_desc.specs.declared.rules.ValueKind.{ValueKind}
-use Rattle.proto_lower.specs.Names.{json_name_of}
+use Rattle.proto_desc.specs.JsonNames.{json_name_of}
 use Rattle.proto_desc.specs.Rules.{Rule, json_name, rules_of}
 use Rattle.proto_tree.specs.Text.{joined}
 use Rattle.proto_options.specs.Options.{first_setting, value_of}

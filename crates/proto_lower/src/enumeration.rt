@@ -9,6 +9,7 @@ use crate::reserved::{enum_ranges, number_of_literal, reserved_names};
 use proto_base::row::Row;
 use proto_base::text::Text;
 use proto_desc::enumeration::{EnumDesc, ValueDesc};
+use proto_desc::identifier::Identifier;
 use proto_desc::rules::Element;
 use proto_tree::{Enum, EnumItem, EnumValue};
 use std::alloc::{AllocError, Global};
@@ -22,7 +23,7 @@ fn put_value<'s>(
     ensures { OnOk result (out.new.items ≡ out.old.items ++ value_desc value.now ∷ []) }
 {
     out.push(ValueDesc {
-        name: Text::borrowed(value.name.text),
+        name: Identifier::new(value.name.text),
         place: value.name.span.start,
         number: number_of_literal(value.number),
         options: bracketed_options(alloc, Element::EnumValue, &value.options)?,

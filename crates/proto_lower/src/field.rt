@@ -8,38 +8,49 @@ use crate::names::entry_name_in;
 use crate::options::{bracketed_options, field_json_name};
 use crate::shared_scope::SharedScope;
 use crate::type_name::field_kind;
-use proto_base::text::Text;
 use proto_desc::absolute_name::AbsoluteName;
 use proto_desc::field::{FieldDesc, FieldKind, FieldLabel};
+use proto_desc::identifier::Identifier;
+use proto_desc::narrow;
 use proto_desc::rules::Element;
 use proto_desc::type_name::{TypeKind, TypeReference};
 use proto_tree::{Declarator, Field, Label, MapField, MessageItem, OneofItem};
 use std::alloc::{AllocError, Global};
 
-/// Adds the field of a declarator.
+/// The position of a oneof as a descriptor has it.
+fn oneof_index(position: Option<usize>) -> Result<Option<u32>, AllocError>
+    ensures { IfOk result (λ index. index ≡ position) }
+{
+    match position {
+        Some(position) => Ok(Some(narrow(position)?)),
+        None => Ok(None),
+    }
+}
+
+/// Adds the field of a declarator, which belongs to the oneof at this position, if any.
 fn put_described<'s>(
     alloc: Global,
     out: &mut Vec<FieldDesc<'s>>,
     declarator: &Declarator<'s>,
     label: FieldLabel,
     field_type: FieldKind<'s>,
-    oneof_index: Option<usize>,
+    oneof: Option<usize>,
     proto3_optional: bool,
 ) -> Result<(), AllocError>
     ensures { OnOk result (out.new.items ≡ out.old.items
-        ++ described declarator.now label field_type.entry oneof_index proto3_optional ∷ []) }
+        ++ described declarator.now label field_type.entry oneof proto3_optional ∷ []) }
 {
     let name = declarator.name.text;
     let options = bracketed_options(alloc, Element::Field, &declarator.options)?;
     let json_name = field_json_name(alloc, name, &declarator.options)?;
     out.push(FieldDesc {
-        name: Text::borrowed(name),
+        name: Identifier::new(name),
         place: declarator.name.span.start,
         label,
         proto3_optional,
+        oneof_index: oneof_index(oneof)?,
         number: declarator.number.value,
         field_type,
-        oneof_index,
         json_name,
         options,
     })?;
@@ -71,7 +82,7 @@ fn put_field<'s>(
     ensures { OnOk result (out.new.items ≡ out.old.items ++ field_at next_made field.now ∷ []) }
 {
     let is_optional = is_optional(&field.label);
-    let oneof_index = if is_optional { Some(next_made) } else { None };
+    let oneof = if is_optional { Some(next_made) } else { None };
     let field_type = field_kind(alloc, &field.field_type)?;
     let label = label_of(&field.label);
     put_described(
@@ -80,7 +91,7 @@ fn put_field<'s>(
         &field.declarator,
         label,
         field_type,
-        oneof_index,
+        oneof,
         is_optional,
     )
 }

@@ -18,4 +18,5 @@ mod type_name;
 
 pub use file::lower;
 pub use laws::{oneof_index_is_its_own, optional_field_has_its_oneof, options_rise};
-pub use names::{entry_name, json_name, oneof_name};
+pub use names::{entry_name, oneof_name};
+pub use proto_desc::json_name::json_name;

@@ -20,6 +20,8 @@ use proto_base::row::Row;
 use proto_base::text::Text;
 use proto_desc::enumeration::EnumDesc;
 use proto_desc::field::{FieldDesc, FieldKind, FieldLabel};
+use proto_desc::identifier::Identifier;
+use proto_desc::json_name::JsonName;
 use proto_desc::message::MessageDesc;
 use proto_desc::oneof::OneofDesc;
 use proto_desc::rules::Element;
@@ -36,14 +38,14 @@ fn entry_field<'s>(
     ensures { result ≡ entry_field name.now place number field_type.entry }
 {
     FieldDesc {
-        name: Text::borrowed(name),
+        name: Identifier::new(name),
         place,
         label: FieldLabel::Optional,
         proto3_optional: false,
         number,
         field_type,
         oneof_index: None,
-        json_name: Text::borrowed(name),
+        json_name: JsonName::same(name),
         options: Row::new(alloc),
     }
 }

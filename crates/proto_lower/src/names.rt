@@ -1,59 +1,16 @@
-//! Names that are made of the names of fields (language guide, "JSON Mapping", "Maps"; `descriptor.proto`, `proto3_optional`).
+//! Names that are made of the names of fields (language guide, "Maps"; `descriptor.proto`, `proto3_optional`).
 
 ghost use Rattle.std.specs.Prelude.{◌≡◌, ◌==◌, ℕ, IfOk, OnOk, string_bytes, map, false, List, [], ◌∷◌, ◌++◌};
-ghost use Rattle.std.specs.List.{list_any};
 ghost use Rattle.std.specs.Set.{is_member};
 ghost use Rattle.std.specs.Str.{bytes_eq};
 ghost use Rattle.std.specs.BTreeSet.{contains_text};
 ghost use Rattle.proto_lower.specs.Fields.{inner};
-ghost use Rattle.proto_lower.specs.Names.{raised, json_name_of, entry_name_of, oneof_name_of, first_free, with_underscore};
+ghost use Rattle.proto_lower.specs.Names.{entry_name_of, oneof_name_of, first_free, with_underscore};
 ghost use Rattle.proto_lower.specs.Taken.{begins_as_made, HoldsTaken};
 
-use proto_base::text::Text;
+use proto_desc::json_name::push_raised;
 use std::alloc::{AllocError, Global};
 use std::collections::BTreeSet;
-
-fn has_underscore(name: &str) -> bool
-    ensures { result ≡ list_any (λ byte. byte == 95) name.now }
-{
-    name.as_bytes().contains(&b'_')
-}
-
-/// Adds a name without its underscores, where a lower-case ASCII letter directly behind one is raised; the character
-/// `first` stands before the first.
-fn push_raised(made: &mut String, name: &str, first: char) -> Result<(), AllocError>
-    ensures { OnOk result (string_bytes made.new
-        ≡ string_bytes made.old ++ raised first name.now) }
-{
-    let mut before = first;
-    for letter in name.chars() {
-        if letter != '_' {
-            let upper = letter.to_ascii_uppercase();
-            made.push(if before == '_' { upper } else { letter })?;
-        }
-        before = letter;
-    }
-    Ok(())
-}
-
-/// The JSON name of a field: underscores are dropped, and a lower-case ASCII letter directly behind one is raised.
-pub fn json_name(alloc: Global, name: &str) -> Result<String, AllocError>
-    ensures { IfOk result (λ json. string_bytes json ≡ json_name_of name.now) }
-{
-    let mut json = String::with_capacity(alloc, name.len())?;
-    push_raised(&mut json, name, ' ')?;
-    Ok(json)
-}
-
-/// The JSON name of a field, which borrows a name without underscores.
-pub(crate) fn json_text<'s>(alloc: Global, name: &'s str) -> Result<Text<'s>, AllocError>
-    ensures { IfOk result (λ json. json ≡ json_name_of name.now) }
-{
-    if !has_underscore(name) {
-        return Ok(Text::borrowed(name));
-    }
-    Ok(Text::owned(json_name(alloc, name)?))
-}
 
 /// What the name of a map field's entry ends with.
 const ENTRY: &str = "Entry";

@@ -6,10 +6,9 @@ ghost use Rattle.std.specs.Option.{option_copied, option_to_list};
 ghost use Rattle.proto_options.specs.Options.{bracketed, value_of};
 ghost use Rattle.proto_lower.specs.Options.{option_by, options_of, json_name_by};
 
-use crate::names::json_text;
 use proto_base::boxed::Boxed;
 use proto_base::row::Row;
-use proto_base::text::Text;
+use proto_desc::json_name::JsonName;
 use proto_desc::options::{OptionDescriptor, OptionValue};
 use proto_desc::rules::{Element, JSON_NAME, OptionRule, ValueKind, rules};
 use proto_options::{Item, first_bracketed, first_setting, number_of};
@@ -80,15 +79,15 @@ pub(crate) fn field_json_name<'s>(
     alloc: Global,
     name: &'s str,
     options: &Option<Boxed<Options<'s>>>,
-) -> Result<Text<'s>, AllocError>
+) -> Result<JsonName<'s>, AllocError>
     ensures { IfOk result (λ json. json ≡ json_name_by (bracketed options.now) name.now) }
 {
     if let Some(setting) = first_bracketed(options, JSON_NAME) {
         if let Constant::String(value) = &setting.value {
-            return joined(alloc, value);
+            return JsonName::given(alloc, joined(alloc, value)?);
         }
     }
-    json_text(alloc, name)
+    Ok(JsonName::made(name))
 }
 
 fn bracketed_count(options: &Option<Boxed<Options>>) -> usize

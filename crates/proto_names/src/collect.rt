@@ -8,13 +8,13 @@ ghost use Rattle.proto_desc.specs.DeclaredNames.{declared_by_enum, declared_by_m
 ghost use Rattle.proto_names.specs.Occurrences.{declared_occurrence, package_occurrences, occurrences_of};
 
 use crate::entries::Entries;
-use crate::entry::{Location, narrow};
+use crate::entry::Location;
 use proto_desc::enumeration::EnumDesc;
 use proto_desc::file::{FileDesc, PackageDescriptor};
 use proto_desc::message::MessageDesc;
 use proto_desc::name_kind::NameKind;
 use proto_desc::service::ServiceDesc;
-use proto_desc::{DeclaredName, Declares};
+use proto_desc::{DeclaredName, Declares, narrow};
 use proto_links::FileId;
 use std::alloc::{AllocError, Global};
 

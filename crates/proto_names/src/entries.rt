@@ -10,12 +10,13 @@ ghost use Rattle.proto_names.specs.Runs.{at};
 ghost use Rattle.proto_names.specs.Scopes.{prefixes};
 ghost use Rattle.proto_desc.specs.DeclaredNames.{scoped};
 
-use crate::entry::{Entry, FIRST_LOCATION, Location, narrow};
+use crate::entry::{Entry, FIRST_LOCATION, Location};
 use crate::hashing::{hash_before, spread, with_byte, with_text};
 use crate::name_bytes::NameBytes;
 use crate::scope::shorter_prefix;
 use crate::scope_before::ScopeBefore;
 use proto_desc::name_kind::NameKind;
+use proto_desc::narrow;
 use std::alloc::{AllocError, Global};
 use std::marker::Model;
 

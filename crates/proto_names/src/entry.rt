@@ -1,23 +1,10 @@
 //! An entry of an index: a full name in a file.
 
-ghost use Rattle.std.specs.Prelude.{◌≡◌, ◌<◌, ◌^◌, IfOk, OnOk};
+ghost use Rattle.std.specs.Prelude.{◌≡◌};
 ghost use Rattle.proto_names.specs.Entries.{own_name};
 
 use proto_base::Place;
 use proto_desc::name_kind::NameKind;
-use std::alloc::AllocError;
-
-/// A number of bytes, entries or files in the 32 bits that an entry has for it. There is no memory for what comes to 2^32 or
-/// more. No files within the standard limits come to that.
-pub(crate) fn narrow(number: usize) -> Result<u32, AllocError>
-    ensures same { IfOk result (λ narrow. narrow ≡ number) }
-    ensures fits { OnOk result (number < 2 ^ 32) }
-{
-    match u32::try_from(number) {
-        Ok(narrow) => Ok(narrow),
-        Err(_) => Err(AllocError),
-    }
-}
 
 /// A place in one of the files, which has a position among all. The order is that of the fields.
 #[derive(Clone, Copy, PartialEq, Eq, PartialOrd, Ord)]

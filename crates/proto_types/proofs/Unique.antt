@@ -33,10 +33,10 @@ out_same m n e = cc (roll-out-MessageDesc m, roll-out-MessageDesc n)
 module _ (os ps : List Occurrence) (Seen Sees : ℕ → Type 0) (alike : AreSeenAlike os Seen ps Sees) where
   reference_same : (scope : List ℕ) (r g h : TypeReference)
       → IsTyped os Seen scope r g → IsTyped ps Sees scope r h → g ≡ h
-  reference_same scope (Spelled text place) g h (full, what, found, made) (other, kind, found_too, made_too) =
+  reference_same scope (Spelled place text) g h (full, what, found, made) (other, kind, found_too, made_too) =
       let one = resolves_same os ps Seen Sees alike scope text full other _ _ found found_too in
       cc (one.0, named_same what kind one.1)
-  reference_same scope (Resolved full_name what) g h made made_too = cc
+  reference_same scope (Resolved what full_name) g h made made_too = cc
 
   field_same : (scope : List ℕ) (f g h : FieldDesc)
       → IsTypedField os Seen scope f g → IsTypedField ps Sees scope f h → g ≡ h

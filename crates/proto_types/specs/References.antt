@@ -39,8 +39,8 @@ reference_to scope text place wanted options =
     record { scope = scope; text = text; place = place; wanted = wanted; options = options }
 
 abbrev pub references_of_type : List ℕ → Want → List OptionDescriptor → TypeReference → List Reference
-references_of_type scope wanted options (Spelled text place) = reference_to scope text place wanted options ∷ []
-references_of_type scope wanted options (Resolved full_name what) = []
+references_of_type scope wanted options (Spelled place text) = reference_to scope text place wanted options ∷ []
+references_of_type scope wanted options (Resolved what full_name) = []
 
 abbrev pub references_of_kind : List ℕ → List OptionDescriptor → FieldKind → List Reference
 references_of_kind scope options (Scalar s) = []

@@ -34,10 +34,10 @@ Means os Seen r t =
 
 -- a resolved name has its leading dot
 abbrev pub IsTyped : List Occurrence → (ℕ → Type 0) → List ℕ → TypeReference → TypeReference → Type 0
-IsTyped os Seen scope (Spelled text place) g =
+IsTyped os Seen scope (Spelled place text) g =
     (full : List ℕ) × (what : TypeKind) × Resolves os Seen scope text full (named_by what)
-    × (g ≡ Resolved (46 ∷ full) what)
-IsTyped os Seen scope (Resolved full_name what) g = g ≡ Resolved full_name what
+    × (g ≡ Resolved what (46 ∷ full))
+IsTyped os Seen scope (Resolved what full_name) g = g ≡ Resolved what full_name
 
 abbrev pub IsTypedKind : List Occurrence → (ℕ → Type 0) → List ℕ → FieldKind → FieldKind → Type 0
 IsTypedKind os Seen scope (Scalar s) g = g ≡ Scalar s

@@ -111,35 +111,35 @@ pub(crate) fn has_tree(alloc: Global, tokens: &Tokens<'static>) -> Answer {
     answer
 }
 
-fn is_field_desc(field: &FieldDesc) -> bool {
+fn is_field_desc(alloc: Global, field: &FieldDesc) -> bool {
     field.name.as_str() == "x"
         && field.number == 1
         && field.label == FieldLabel::Optional
         && matches!(field.field_type, FieldKind::Scalar(ScalarType::Int32))
-        && field.json_name.as_str() == "x"
+        && matches!(field.json_name.text(alloc), Ok(text) if text.as_str() == "x")
 }
 
 /// Whether this is the descriptor of the text.
-fn is_descriptor(file: &FileDesc) -> bool {
+fn is_descriptor(alloc: Global, file: &FileDesc) -> bool {
     let [message] = file.messages.as_slice() else {
         return false;
     };
     let [field] = message.fields.as_slice() else {
         return false;
     };
-    file.name.as_str() == NAME && message.name.as_str() == "A" && is_field_desc(field)
+    file.name.as_str() == NAME && message.name.as_str() == "A" && is_field_desc(alloc, field)
 }
 
-fn descriptor_answer(made: &Result<FileDesc<'static>, AllocError>) -> Answer {
+fn descriptor_answer(alloc: Global, made: &Result<FileDesc<'static>, AllocError>) -> Answer {
     match made {
-        Ok(file) => answer_of(is_descriptor(file)),
+        Ok(file) => answer_of(is_descriptor(alloc, file)),
         Err(AllocError) => Answer::NoMemory,
     }
 }
 
 pub(crate) fn has_descriptor(alloc: Global, tree: &FileTree<'static>) -> Answer {
     let made = lower(alloc, NAME, tree);
-    let answer = descriptor_answer(&made);
+    let answer = descriptor_answer(alloc, &made);
     drop(made);
     answer
 }

@@ -92,12 +92,12 @@ type_kind_number type_kind.Enum = 14
 
 -- a name as spelled is in no file whose bytes are asked for: all names are resolved there
 abbrev pub reference_number : TypeReference → ℕ
-reference_number (Spelled text place) = 11
-reference_number (Resolved full_name kind) = type_kind_number kind
+reference_number (Spelled place text) = 11
+reference_number (Resolved kind full_name) = type_kind_number kind
 
 abbrev pub reference_text : TypeReference → List ℕ
-reference_text (Spelled text place) = text
-reference_text (Resolved full_name kind) = full_name
+reference_text (Spelled place text) = text
+reference_text (Resolved kind full_name) = full_name
 
 abbrev pub type_number : FieldKind → ℕ
 type_number (Scalar s) = scalar_number s

@@ -61,6 +61,11 @@ impl Backward {
         })
     }
 
+    /// What the buffer has its memory from.
+    pub(crate) fn allocator(&self) -> Global {
+        *self.bytes.allocator()
+    }
+
     /// How many bytes are written.
     pub(crate) fn len(&self) -> usize
         ensures { result ≡ length self.now }
@@ -122,6 +127,6 @@ impl Backward {
     pub(crate) fn into_vec(self) -> Result<Vec<u8>, AllocError>
         ensures { IfOk result (λ bytes. bytes.items ≡ self) }
     {
-        Vec::from_slice(*self.bytes.allocator(), &self.bytes[self.room..])
+        Vec::from_slice(self.allocator(), &self.bytes[self.room..])
     }
 }

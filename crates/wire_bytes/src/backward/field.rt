@@ -8,6 +8,8 @@ ghost use Rattle.wire_format.specs.Varint.{varint_bytes};
 use crate::backward::Backward;
 use proto_base::row::Row;
 use proto_base::text::Text;
+use proto_desc::identifier::Identifier;
+use proto_desc::json_name::JsonName;
 use std::alloc::AllocError;
 
 /// What stands behind the length in a field of wire type 2: a text or a message.
@@ -24,6 +26,23 @@ impl<'s> Payload for Text<'s> {
 
     fn prepend_to(&self, out: &mut Backward) -> Result<(), AllocError> {
         out.prepend_bytes(self.as_str().as_bytes())
+    }
+}
+
+impl<'s> Payload for Identifier<'s> {
+    ghost bytes = { λ identifier. identifier };
+
+    fn prepend_to(&self, out: &mut Backward) -> Result<(), AllocError> {
+        out.prepend_bytes(self.as_str().as_bytes())
+    }
+}
+
+impl<'s> Payload for JsonName<'s> {
+    ghost bytes = { λ json. json };
+
+    fn prepend_to(&self, out: &mut Backward) -> Result<(), AllocError> {
+        let text = self.text(out.allocator())?;
+        text.prepend_to(out)
     }
 }
 

@@ -59,11 +59,11 @@ fn prepend_type_name(out: &mut Backward, field_type: &FieldKind) -> Result<(), A
     }
 }
 
-fn prepend_oneof_index(out: &mut Backward, index: Option<usize>) -> Result<(), AllocError>
+fn prepend_oneof_index(out: &mut Backward, index: Option<u32>) -> Result<(), AllocError>
     ensures { OnOk result (out.new ≡ index_field 9 index ++ out.old) }
 {
     match index {
-        Some(index) => out.prepend_number(9, index as u64),
+        Some(index) => out.prepend_number(9, u64::from(index)),
         None => Ok(()),
     }
 }

@@ -1,7 +1,8 @@
-use Rattle.proto_lower.proofs.Common.{arith, inl, inr, ◌∙◌, nat_tests}
-use Rattle.proto_lower.proofs.Raised.{so_far_start, so_far_dropped, so_far_pushed, so_far_end, raised_as}
-use Rattle.proto_lower.proofs.names.push_raised.Goals as goal
-use Rattle.proto_lower.proofs.names.push_raised.Goals.{then-before-eq95, else-before-eq95}
+use Rattle.std.proofs.Common.{arith, inl, inr, ◌∙◌}
+use Rattle.std.proofs.lemmas.Bool.Decides.{nat_tests}
+use Rattle.proto_desc.proofs.Raised.{so_far_start, so_far_dropped, so_far_pushed, so_far_end, raised_as}
+use Rattle.proto_desc.proofs.json_name.push_raised.Goals as goal
+use Rattle.proto_desc.proofs.json_name.push_raised.Goals.{then-before-eq95, else-before-eq95}
 
 pub loop-letter-init : goal.loop-letter-init
 loop-letter-init c = rw (c.into_iter-letter-iterator.ensures.into_iter_gives, c.chars-letter-items.ensures.rest)

@@ -1,6 +1,7 @@
-use Rattle.proto_lower.proofs.Common.{◌++◌, string_bytes, raised}
-use Rattle.proto_lower.proofs.Raised.{IsSoFar}
-use Rattle.proto_lower.proofs.names.push_raised.Given as goal
+use Rattle.std.proofs.Common.{◌++◌, string_bytes}
+use Rattle.proto_desc.specs.JsonNames.{raised}
+use Rattle.proto_desc.proofs.Raised.{IsSoFar}
+use Rattle.proto_desc.proofs.json_name.push_raised.Given as goal
 
 abbrev pub invariant-loop-letter : goal.invariant-loop-letter
 invariant-loop-letter l =

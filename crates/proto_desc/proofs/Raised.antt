@@ -1,5 +1,11 @@
 -- Names without underscores are their own JSON names.
-use Rattle.proto_lower.proofs.Common.{length, ◌⊎◌, ◌≢◌, ◌≡◌, ◌∙◌, ℕ, List, [], ◌∷◌, ◌++◌, append_assoc, sym, refl, true, false, arith, if◌then◌else◌, append-nil, list_any-append, ◌==◌, encode_utf8, encode_utf8_all, list_any, chars, IsUtf8, nat_tests, letters_behind, raised, json_name_of}
+use Rattle.std.proofs.Common.{length, ◌⊎◌, ◌≢◌, ◌≡◌, ◌∙◌, ℕ, List, [], ◌∷◌, ◌++◌, append_assoc, sym, refl, true, false, arith, if◌then◌else◌, ◌==◌, encode_utf8, encode_utf8_all}
+use Rattle.std.proofs.lemmas.Bool.Decides.{nat_tests}
+use Rattle.std.proofs.lemmas.List.{append-nil}
+use Rattle.std.proofs.lemmas.List.Folds.{list_any-append}
+use Rattle.std.specs.List.{list_any}
+use Rattle.std.specs.Str.{chars, IsUtf8}
+use Rattle.proto_desc.specs.JsonNames.{letters_behind, raised, json_name_of}
 use Rattle.std.specs.Char.{to_ascii_uppercase}
 use Rattle.std.proofs.lemmas.Str.{encodes-chars, cons_from_encodes, encodes_same}
 
