@@ -35,6 +35,9 @@ sweep() {
 
 P='syntax = "proto3"; '
 sweep REFUSE_AT 0 '0a07612e70726f746f22110a0141120c0a0178180120012805520178620670726f746f33\n' '' "${P}message A { int32 x = 1; }" describe a.proto
+# Made JSON names, and one that an option sets.
+sweep REFUSE_AT 0 '0a07612e70726f746f22230a0141120f0a03615f6218012001280552026142120d0a016318022001280552026465620670726f746f33\n' '' \
+    "${P}message A { int32 a_b = 1; int32 c = 2 [json_name = \"d\" \"e\"]; }" describe a.proto
 sweep REFUSE_AT 1 '' 'e.proto:1:1: UnexpectedEnd' '' describe e.proto
 mkdir -p "$folder/sources/p" "$folder/bad"
 printf '%simport "p/b.proto"; message A { p.B b = 1; }' "$P" >"$folder/sources/a.proto"
