@@ -37,18 +37,6 @@ impl<'a> Model for MarkedText<'a> {
     ghost view = { λ a. record { text = a.text.now; place = a.place } };
 }
 
-/// What has a text that no later one may equal.
-pub(crate) trait HasText {
-    ghost use Rattle.proto_checks.specs.Marks.{Marked};
-
-    /// Its text, and the place at which it is at fault.
-    ghost mark: { Self → Marked };
-
-    /// Its text and that place, without memory.
-    fn marked_text(&self) -> MarkedText<'_>
-        ensures { result ≡ mark self.now };
-}
-
 /// A text that is borrowed or owned, with the place at which it is at fault.
 #[derive(Drop)]
 pub(crate) struct PlacedText<'s> {
@@ -62,6 +50,18 @@ impl<'s> Model for PlacedText<'s> {
     ghost Value = { Marked };
 
     ghost view = { λ a. record { text = a.text; place = a.place } };
+}
+
+/// What has a text that no later one may equal.
+pub(crate) trait HasText {
+    ghost use Rattle.proto_checks.specs.Marks.{Marked};
+
+    /// Its text, and the place at which it is at fault.
+    ghost mark: { Self → Marked };
+
+    /// Its text and that place, without memory.
+    fn marked_text(&self) -> MarkedText<'_>
+        ensures { result ≡ mark self.now };
 }
 
 impl<'s> HasText for PlacedText<'s> {

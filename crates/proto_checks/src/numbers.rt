@@ -18,7 +18,7 @@ use crate::least::least_of;
 use crate::marks::{MarkedNumber, MarkedRange};
 use crate::ranges::{first_backwards, first_overlap, first_reserved_number};
 use crate::repeats::first_number_twice;
-use crate::reserved_names::{first_reserved_twice, reserved_names};
+use crate::reserved_names::first_reserved_twice;
 use proto_base::{Kind, Spot};
 use proto_options::{Reserves, ranges_listed};
 use proto_tree::{EnumItem, MessageItem};
@@ -87,8 +87,7 @@ pub(crate) fn first_field_number_fault(
     let own = first_own_field_number_fault(alloc, &numbers)?;
     let kind = Kind::FieldNumberRange;
     let range = first_reserved_range_fault(alloc, items, &numbers, 1, FIELD_MAX, kind)?;
-    let names = reserved_names(alloc, items)?;
-    let name = first_reserved_twice(alloc, &names)?;
+    let name = first_reserved_twice(alloc, items)?;
     Ok(least_of(&[own, range, name]))
 }
 
@@ -147,7 +146,6 @@ pub(crate) fn first_enum_number_fault(
     let own = first_own_value_number_fault(alloc, items, &numbers)?;
     let kind = Kind::EnumNumberRange;
     let range = first_reserved_range_fault(alloc, items, &numbers, VALUE_MIN, VALUE_MAX, kind)?;
-    let names = reserved_names(alloc, items)?;
-    let name = first_reserved_twice(alloc, &names)?;
+    let name = first_reserved_twice(alloc, items)?;
     Ok(least_of(&[own, range, name]))
 }

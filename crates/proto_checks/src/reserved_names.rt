@@ -1,6 +1,6 @@
 //! Reserved names: that none is reserved twice, and that none is in use.
 
-ghost use Rattle.std.specs.Prelude.{◌≡◌, ◌↔◌, Contains, IfOk, IfSome, IsTrue, flat_map, map};
+ghost use Rattle.std.specs.Prelude.{◌≡◌, ◌↔◌, ◌∷◌, ◌++◌, [], Contains, IfOk, IfSome, IsTrue, OnOk, flat_map, map};
 ghost use Rattle.proto_base.specs.declared.kind.Kind.TheVariants.{ReservedNameTwice};
 ghost use Rattle.proto_checks.specs.Gathered.{reserved_name};
 ghost use Rattle.proto_options.specs.Statements.{names_in};
@@ -15,12 +15,28 @@ use proto_base::text::Text;
 use proto_base::{Kind, Spot, lesser};
 use proto_desc::Declares;
 use proto_options::{Reserves, names_listed};
+use proto_tree::StringValue;
 use proto_tree::text::joined;
 use std::alloc::{AllocError, Global};
 use std::collections::BTreeSet;
 
-/// The names that statements reserve. A name borrows the text of one literal, and owns that of more.
-pub(crate) fn reserved_names<'s, I: Reserves<'s>>(
+/// Adds a name that is reserved. It borrows the text of one literal, and owns that of more.
+fn put_reserved<'s>(
+    alloc: Global,
+    names: &mut Vec<PlacedText<'s>>,
+    name: &StringValue<'s>,
+) -> Result<(), AllocError>
+    ensures { OnOk result (names.new.items ≡ names.old.items ++ reserved_name name.now ∷ []) }
+{
+    names.push(PlacedText {
+        text: joined(alloc, name)?,
+        place: name.first.span.start,
+    })?;
+    Ok(())
+}
+
+/// The names that statements reserve.
+fn reserved_names<'s, I: Reserves<'s>>(
     alloc: Global,
     items: &[I],
 ) -> Result<Vec<PlacedText<'s>>, AllocError>
@@ -30,22 +46,22 @@ pub(crate) fn reserved_names<'s, I: Reserves<'s>>(
     let listed = names_listed(alloc, items)?;
     let mut names = Vec::with_capacity(alloc, listed.len())?;
     for name in listed {
-        names.push(PlacedText {
-            text: joined(alloc, name)?,
-            place: name.first.span.start,
-        })?;
+        put_reserved(alloc, &mut names, name)?;
     }
     Ok(names)
 }
 
-/// The first name that is reserved already.
-pub(crate) fn first_reserved_twice(
+/// The first name that statements reserve though it is reserved already.
+pub(crate) fn first_reserved_twice<'s, I: Reserves<'s>>(
     alloc: Global,
-    names: &[PlacedText],
+    items: &[I],
 ) -> Result<Option<Spot>, AllocError>
-    ensures { IfOk result (λ first. IsLeast (TextTwice ReservedNameTwice names.now) first) }
+    ensures { IfOk result (λ first. IsLeast
+        (TextTwice ReservedNameTwice
+        (map reserved_name (flat_map names_in (flat_map I.reserved_by items.now)))) first) }
 {
-    first_text_twice(alloc, Kind::ReservedNameTwice, names)
+    let names = reserved_names(alloc, items)?;
+    first_text_twice(alloc, Kind::ReservedNameTwice, &names)
 }
 
 fn set_of<'a>(alloc: Global, names: &'a [Text]) -> Result<BTreeSet<&'a str>, AllocError>

@@ -1,9 +1,10 @@
 //! What a file describes: its tokens, its grammar, and the rules that one file can break.
 
-ghost use Rattle.std.specs.Prelude.{◌≡◌, ℕ, List, IfErr, IfOk, Some};
+ghost use Rattle.std.specs.Prelude.{◌≡◌, ℕ, List, IfErr, IfOk, OnOk, Some};
 ghost use Rattle.proto_file.specs.Local.{Describes, IsFile, IsLocalFault, IsUnbroken};
 ghost use Rattle.proto_base.specs.FileFaults.{TellsFirst};
 ghost use Rattle.proto_base.specs.Least.{IsLeast};
+ghost use Rattle.proto_base.specs.declared.spot.Spot.{Spot};
 ghost use Rattle.proto_checks.specs.Checks.{FileBreaks};
 ghost use Rattle.proto_lower.specs.Files.{lowered};
 
@@ -45,8 +46,20 @@ fn tree_of<'s>(alloc: Global, text: &'s [u8], limits: &Limits) -> Result<FileTre
     Ok(file)
 }
 
+/// Judges what the tree of a file describes: the first rule that it breaks is told.
+fn judge(alloc: Global, file: &FileTree, desc: &FileDesc, limits: &Limits) -> Result<(), FileError>
+    ensures unbroken { OnOk result ((x : Spot) → FileBreaks limits.now file.now desc.now x → ⊥) }
+    ensures first { IfErr result (TellsFirst (λ f. (f.step ≡ 2)
+        × IsLeast (FileBreaks limits.now file.now desc.now) (Some f.spot))) }
+{
+    match first_check_fault(alloc, file, desc, limits)? {
+        Some((place, kind)) => Err(FileError::at(RULES, Spot { place, kind })),
+        None => Ok(()),
+    }
+}
+
 /// What the tree of a file describes, or the first rule that it breaks.
-fn judge<'s>(
+fn description_of<'s>(
     alloc: Global,
     name: &'s str,
     file: &FileTree<'s>,
@@ -58,10 +71,8 @@ fn judge<'s>(
         × IsLeast (FileBreaks limits.now file.now (lowered name.now file.now)) (Some f.spot))) }
 {
     let desc = lower(alloc, name, file)?;
-    match first_check_fault(alloc, file, &desc, limits)? {
-        Some((place, kind)) => Err(FileError::at(RULES, Spot { place, kind })),
-        None => Ok(desc),
-    }
+    judge(alloc, file, &desc, limits)?;
+    Ok(desc)
 }
 
 /// What a file of this name and text describes, or its first fault by itself: the first of its tokens, else of the grammar,
@@ -76,5 +87,5 @@ pub fn describe<'s>(
     ensures first { IfErr result (TellsFirst (IsLocalFault limits.now name.now text.now)) }
 {
     let file = tree_of(alloc, text, limits)?;
-    judge(alloc, name, &file, limits)
+    description_of(alloc, name, &file, limits)
 }

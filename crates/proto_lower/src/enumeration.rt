@@ -49,10 +49,13 @@ fn put_values<'s>(
 }
 
 fn value_count(items: &[EnumItem]) -> usize {
-    items
-        .iter()
-        .filter(|item| matches!(item, EnumItem::Value(_)))
-        .count()
+    let mut count = 0usize;
+    for item in items {
+        if matches!(item, EnumItem::Value(_)) {
+            count = count.saturating_add(1);
+        }
+    }
+    count
 }
 
 /// Adds the descriptor of an enum.

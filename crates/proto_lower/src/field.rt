@@ -66,7 +66,8 @@ fn label_of(label: &Option<Label>) -> FieldLabel
     }
 }
 
-fn is_optional(label: &Option<Label>) -> bool
+/// Whether a field with this label is `optional`.
+pub(crate) fn is_optional(label: &Option<Label>) -> bool
     ensures { result ≡ is_optional label.now }
 {
     matches!(label, Some(Label::Optional(_)))
@@ -173,20 +174,6 @@ pub(crate) fn real_count(items: &[MessageItem]) -> usize
         if matches!(item, MessageItem::Oneof(_)) {
             count += 1;
         }
-    }
-    count
-}
-
-/// How many fields these statements have at most.
-pub(crate) fn field_count(items: &[MessageItem]) -> usize {
-    let mut count = 0usize;
-    for item in items {
-        let more = match item {
-            MessageItem::Field(_) | MessageItem::Map(_) => 1,
-            MessageItem::Oneof(oneof) => oneof.get().items.len(),
-            _ => 0,
-        };
-        count = count.saturating_add(more);
     }
     count
 }

@@ -6,6 +6,7 @@
 mod enumeration;
 mod field;
 mod file;
+mod item_counts;
 mod laws;
 mod message;
 mod names;

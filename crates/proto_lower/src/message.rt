@@ -8,7 +8,8 @@ ghost use Rattle.proto_lower.specs.Enums.{lowered_enum};
 ghost use Rattle.proto_options.specs.Statements.{message_enum};
 
 use crate::enumeration::put_enum;
-use crate::field::{field_count, inner_name, put_fields, real_count};
+use crate::field::{inner_name, put_fields, real_count};
+use crate::item_counts::ItemCounts;
 use crate::names::entry_name;
 use crate::oneof::put_oneofs;
 use crate::options::options_of;
@@ -89,14 +90,6 @@ fn put_entry<'s>(
     Ok(())
 }
 
-/// How many of these statements declare an enum.
-fn enum_count(items: &[MessageItem]) -> usize {
-    items
-        .iter()
-        .filter(|item| matches!(item, MessageItem::Enum(_)))
-        .count()
-}
-
 /// Adds the enums among these statements.
 fn put_enums<'s>(
     alloc: Global,
@@ -106,7 +99,6 @@ fn put_enums<'s>(
     ensures { OnOk result (out.new.items
         ≡ out.old.items ++ map lowered_enum (flat_map message_enum items.now)) }
 {
-    out.reserve_exact(enum_count(items))?;
     for item in items {
         if let MessageItem::Enum(declared) = item {
             put_enum(alloc, out, declared.get())?;
@@ -152,13 +144,15 @@ fn put_parts<'s>(
     put_enums(alloc, &mut out.enums, items)
 }
 
-/// Adds the message of this name in the scope and these statements, with the descriptors of its nested messages.
+/// Adds the message of this name in the scope and these statements, which declare so much, with the descriptors of its
+/// nested messages.
 fn put_message_of<'s>(
     alloc: Global,
     out: &mut Vec<MessageDesc<'s>>,
     scope: &mut SharedScope,
     name: &Name<'s>,
     items: &[MessageItem<'s>],
+    counts: ItemCounts,
     nested: Row<MessageDesc<'s>>,
 ) -> Result<(), AllocError>
     ensures same { scope.new ≡ scope.old }
@@ -167,9 +161,9 @@ fn put_message_of<'s>(
 {
     let options = options_of(alloc, Element::Message, items)?;
     let mut parts = Parts {
-        fields: Vec::with_capacity(alloc, field_count(items))?,
-        oneofs: Vec::new(alloc),
-        enums: Vec::new(alloc),
+        fields: Vec::with_capacity(alloc, counts.fields)?,
+        oneofs: Vec::with_capacity(alloc, counts.oneofs)?,
+        enums: Vec::with_capacity(alloc, counts.enums)?,
     };
     put_parts(alloc, &mut parts, scope, name.text, items)?;
     out.push(MessageDesc {
@@ -187,14 +181,6 @@ fn put_message_of<'s>(
     Ok(())
 }
 
-/// How many messages these statements declare, and entries their map fields have.
-fn nested_count(items: &[MessageItem]) -> usize {
-    items
-        .iter()
-        .filter(|item| matches!(item, MessageItem::Map(_) | MessageItem::Message(_)))
-        .count()
-}
-
 /// Adds the messages that these statements of the message with this full name declare, and the entries of its map fields.
 #[cycle(messages)]
 fn put_nested<'s>(
@@ -206,7 +192,6 @@ fn put_nested<'s>(
     ensures { OnOk result (out.new.items
         ≡ out.old.items ++ flat_map (nested_of full.now) items.now) }
 {
-    out.reserve_exact(nested_count(items))?;
     let mut scope = SharedScope::new(full);
     for item in items {
         match item {
@@ -237,8 +222,9 @@ pub(crate) fn put_message<'s>(
 {
     let items = message.items.as_slice();
     let full = inner_name(alloc, scope.full(), message.name.text)?;
-    let mut nested = Vec::new(alloc);
+    let counts = ItemCounts::of(items);
+    let mut nested = Vec::with_capacity(alloc, counts.nested)?;
     put_nested(alloc, &mut nested, full.as_str(), items)?;
     let nested = Row::from_vec(nested);
-    put_message_of(alloc, out, scope, &message.name, items, nested)
+    put_message_of(alloc, out, scope, &message.name, items, counts, nested)
 }

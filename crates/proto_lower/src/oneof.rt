@@ -5,7 +5,6 @@ ghost use Rattle.std.specs.List.{list_any};
 ghost use Rattle.proto_lower.specs.Taken.{HoldsTaken};
 ghost use Rattle.proto_lower.specs.Oneofs.{real_named, real_oneofs, names_of_fields, names_of_oneofs, made_named, with_made};
 
-use crate::field::real_count;
 use crate::names::{first_free, take_name, with_underscore};
 use proto_base::text::Text;
 use proto_desc::field::FieldDesc;
@@ -129,8 +128,6 @@ pub(crate) fn put_oneofs<'s>(
     ensures { OnOk result (out.new.items ≡ with_made (names_of_fields fields.now)
         (out.old.items ++ real_oneofs items.now) fields.now) }
 {
-    let made = fields.iter().filter(|field| field.proto3_optional).count();
-    out.reserve_exact(real_count(items).saturating_add(made))?;
     put_real(out, items)?;
     put_made(alloc, out, fields)
 }

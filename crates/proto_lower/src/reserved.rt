@@ -1,6 +1,6 @@
 //! Reserved numbers and names (language guide, "Reserved Fields", "Reserved Values").
 
-ghost use Rattle.std.specs.Prelude.{◌≡◌, IfOk, map, flat_map};
+ghost use Rattle.std.specs.Prelude.{◌≡◌, ◌∷◌, ◌++◌, [], IfOk, OnOk, map, flat_map};
 ghost use Rattle.proto_tree.specs.Text.{joined};
 ghost use Rattle.proto_lower.specs.Reserveds.{message_range, enum_range, number_of_literal};
 ghost use Rattle.proto_options.specs.Statements.{message_reserved, enum_reserved, ranges_in, names_in};
@@ -11,7 +11,7 @@ use proto_desc::message::ReservedRange;
 use proto_desc::whole_number::WholeNumber;
 use proto_options::{FIELD_MAX, Reserves, VALUE_MAX, names_listed, ranges_listed};
 use proto_tree::text::joined;
-use proto_tree::{EnumItem, MessageItem, NumberLiteral, Range, SignedNumber};
+use proto_tree::{EnumItem, MessageItem, NumberLiteral, Range, SignedNumber, StringValue};
 use std::alloc::{AllocError, Global};
 
 fn message_range(range: &Range<NumberLiteral>) -> ReservedRange
@@ -73,6 +73,18 @@ pub(crate) fn enum_ranges(
     Ok(ranges)
 }
 
+/// Adds a name that is reserved.
+fn put_reserved<'s>(
+    alloc: Global,
+    names: &mut Vec<Text<'s>>,
+    name: &StringValue<'s>,
+) -> Result<(), AllocError>
+    ensures { OnOk result (names.new.items ≡ names.old.items ++ joined name.now ∷ []) }
+{
+    names.push(joined(alloc, name)?)?;
+    Ok(())
+}
+
 /// The names that statements reserve.
 pub(crate) fn reserved_names<'s, I: Reserves<'s>>(
     alloc: Global,
@@ -84,7 +96,7 @@ pub(crate) fn reserved_names<'s, I: Reserves<'s>>(
     let listed = names_listed(alloc, items)?;
     let mut names = Vec::with_capacity(alloc, listed.len())?;
     for name in listed {
-        names.push(joined(alloc, name)?)?;
+        put_reserved(alloc, &mut names, name)?;
     }
     Ok(names)
 }

@@ -36,10 +36,13 @@ fn put_method<'s>(
 }
 
 fn method_count(items: &[ServiceItem]) -> usize {
-    items
-        .iter()
-        .filter(|item| matches!(item, ServiceItem::Rpc(_)))
-        .count()
+    let mut count = 0usize;
+    for item in items {
+        if matches!(item, ServiceItem::Rpc(_)) {
+            count = count.saturating_add(1);
+        }
+    }
+    count
 }
 
 fn methods<'s>(alloc: Global, items: &[ServiceItem<'s>]) -> Result<Row<MethodDesc<'s>>, AllocError>

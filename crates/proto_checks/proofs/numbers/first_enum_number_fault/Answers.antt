@@ -6,5 +6,4 @@ pub returns : goal.returns
 returns c =
     let own = rw (c.deref.ensures.value, c.in_ok-numbers.ensures) at c.in_ok-own.ensures in
     let range = rw (c.deref-2.ensures.value, c.in_ok-numbers.ensures) at c.in_ok-range.ensures in
-    let name = rw (c.deref-3.ensures.value, c.in_ok-names.ensures) at c.in_ok-name.ensures in
-    least_of_rules (rule own) (rule range ∷ rule name ∷ []) _ c.least_of.ensures
+    least_of_rules (rule own) (rule range ∷ rule c.in_ok-name.ensures ∷ []) _ c.least_of.ensures
