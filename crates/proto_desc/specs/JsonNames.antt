@@ -1,9 +1,7 @@
--- JSON names of fields, and where they come from.
+-- JSON names of fields.
 use Rattle.std.specs.Prelude.{ℕ, List, [], ◌∷◌, ◌++◌, if◌then◌else◌, ◌==◌, encode_utf8_all}
 use Rattle.std.specs.Str.{chars}
 use Rattle.std.specs.Char.{to_ascii_uppercase}
-use Rattle.proto_desc.specs.declared.json_name.Origin.{Origin}
-use Rattle.proto_desc.specs.declared.json_name.Origin.TheVariants.{Same, Raised, Given}
 
 -- what becomes of a character, by the one before it: `_` is dropped, and a lower-case ASCII letter directly behind `_`
 -- is raised
@@ -21,9 +19,3 @@ raised first name = encode_utf8_all (letters_behind first (chars name))
 -- nothing stands before the first character of a field's name, which is as if a blank did
 abbrev pub json_name_of : List ℕ → List ℕ
 json_name_of name = raised 32 name
-
--- the JSON name that comes from there
-abbrev pub json_from : Origin → List ℕ
-json_from (Same text) = text.now
-json_from (Raised name) = json_name_of name.now
-json_from (Given text) = text

@@ -1,5 +1,6 @@
 pub mod DeclaredNames
 pub mod JsonNames
+pub mod JsonOrigins
 pub mod Places
 pub mod Resolved
 pub mod Rules

@@ -19,6 +19,7 @@ impl<'s> Model for Identifier<'s> {
 }
 
 impl<'s> Identifier<'s> {
+    /// The name of this text, whatever characters it has.
     pub fn new(text: &'s str) -> Identifier<'s>
         ensures { result ≡ text.now }
     {

@@ -20,8 +20,8 @@ pub(crate) enum Origin<'s> {
     Given(Boxed<Text<'s>>),
 }
 
-/// The JSON name of a field. It is made of the field's name where it is asked for, and takes no memory until then.
-/// Contracts see its bytes.
+/// The JSON name of a field. One that is made of the field's name is made where it is asked for, and takes no memory until
+/// then; one that an option sets is kept behind a pointer. Contracts see its bytes.
 #[derive(Drop)]
 pub struct JsonName<'s> {
     origin: Origin<'s>,
@@ -29,7 +29,7 @@ pub struct JsonName<'s> {
 
 impl<'s> Model for JsonName<'s> {
     ghost use Rattle.std.specs.Prelude.{List, ℕ};
-    ghost use Rattle.proto_desc.specs.JsonNames.{json_from};
+    ghost use Rattle.proto_desc.specs.JsonOrigins.{json_from};
 
     ghost Value = { List ℕ };
 

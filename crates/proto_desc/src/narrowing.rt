@@ -1,6 +1,6 @@
 //! Numbers that are kept in 32 bits.
 
-ghost use Rattle.std.specs.Prelude.{◌≡◌, ◌<◌, ◌^◌, IfOk, OnOk};
+ghost use Rattle.std.specs.Prelude.{◌≡◌, ◌<◌, ◌≤◌, ◌^◌, IfOk, OnErr, OnOk};
 
 use std::alloc::AllocError;
 
@@ -9,6 +9,7 @@ use std::alloc::AllocError;
 pub fn narrow(number: usize) -> Result<u32, AllocError>
     ensures same { IfOk result (λ narrow. narrow ≡ number) }
     ensures fits { OnOk result (number < 2 ^ 32) }
+    ensures refused { OnErr result (2 ^ 32 ≤ number) }
 {
     match u32::try_from(number) {
         Ok(narrow) => Ok(narrow),

@@ -23,8 +23,8 @@ use Rattle.proto_types.specs.declared.recalled.Recalled.{Recalled}
 use Rattle.proto_types.specs.Sight.{Sight}
 
 -- what a name means in a scope, in a file
-abbrev pub IsFoundIn : Sight → List ℕ → List ℕ → Option FoundType → Type 0
-IsFoundIn here = IsFound here.index.occurrences (SeenBy here.links here.file)
+abbrev pub IsFoundInFile : Sight → List ℕ → List ℕ → Option FoundType → Type 0
+IsFoundInFile here = IsFound here.index.occurrences (SeenBy here.links here.file)
 
 -- names with what they mean in a scope
 abbrev pub AreRecalled : List Occurrence → (ℕ → Type 0) → List ℕ → List Recalled → Type 0

@@ -5,7 +5,7 @@ ghost use Rattle.std.specs.Prelude.{◌≡◌, flat_map, if◌then◌else◌, If
 ghost use Rattle.proto_desc.specs.DeclaredNames.{file_scope};
 ghost use Rattle.proto_names.specs.Scopes.{IsCandidate};
 ghost use Rattle.proto_types.specs.References.{reference_to, references_of_type, references_of_field, references_by_message, references_of_method, references_of_service, references};
-ghost use Rattle.proto_types.specs.Recalling.{IsFoundIn, IsMeaningBy, IsSpelling};
+ghost use Rattle.proto_types.specs.Recalling.{IsFoundInFile, IsMeaningBy, IsSpelling};
 ghost use Rattle.proto_types.specs.Sight.{Sight};
 ghost use Rattle.proto_types.specs.Steps.{FindsIn, MeansIn};
 
@@ -89,7 +89,7 @@ impl<'i, 'd> Finder<'i, 'd> {
         requires { IsSpelling self.old.names inner.old }
         ensures same { self.new.names ≡ self.old.names }
         ensures scope { inner.new.scope.now ≡ inner.old.scope.now }
-        ensures found { IfOk result (IsFoundIn self.old.names inner.old.scope.now text.now) }
+        ensures found { IfOk result (IsFoundInFile self.old.names inner.old.scope.now text.now) }
         ensures ready { OnOk result (IsSpelling self.old.names inner.new) }
     {
         match &inner.scopes {

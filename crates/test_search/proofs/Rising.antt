@@ -1,5 +1,5 @@
 -- Sources whose names were found to rise.
-use Rattle.std.proofs.Common.{◌≡◌, ◌∙◌, sym, ap, refl, ◌+◌, ◌<◌, ℕ, List, [], ◌∷◌, Bool, true, get_or, length, arith, Ordering, Less, Equal, Greater, is_lt, nat_cmp, true≢false}
+use Rattle.std.proofs.Common.{◌≡◌, ◌∙◌, ap, refl, ◌+◌, ◌<◌, List, [], ◌∷◌, Bool, true, get_or, length, arith, Ordering, Less, Equal, Greater, is_lt, nat_cmp, true≢false}
 use Rattle.std.specs.Cmp.Lexicographic.{slice_cmp}
 use Rattle.std.specs.List.{AllAdjacentBelow}
 use Rattle.std.proofs.lemmas.List.{get_or-map, length-map}

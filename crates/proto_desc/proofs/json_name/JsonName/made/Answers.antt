@@ -1,5 +1,5 @@
 use Rattle.std.proofs.Common.{sym, ◌∙◌, ap}
-use Rattle.proto_desc.specs.JsonNames.{json_from}
+use Rattle.proto_desc.specs.JsonOrigins.{json_from}
 use Rattle.proto_desc.proofs.Raised.{json_name_unchanged}
 use Rattle.proto_desc.proofs.json_name.JsonName.made.Goals as goal
 use Rattle.proto_desc.proofs.json_name.JsonName.made.Goals.{then-has_underscore, else-has_underscore}
