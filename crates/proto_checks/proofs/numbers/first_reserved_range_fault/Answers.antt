@@ -1,4 +1,4 @@
-use Rattle.proto_checks.proofs.Common.{[], ◌∷◌}
+use Rattle.proto_checks.proofs.Common.{[], ◌∷◌, arith, common_steps}
 use Rattle.proto_checks.proofs.Rules.{least_of_rules, rule}
 use Rattle.proto_checks.proofs.numbers.first_reserved_range_fault.Goals as goal
 
@@ -9,3 +9,6 @@ returns g c =
     let ranges = rw (c.deref-3.ensures.value, c.in_ok-listed.ensures) at c.in_ok-ranges.ensures in
     let range = rw (c.deref-4.ensures.value, ranges) at c.in_ok-range.ensures in
     least_of_rules (rule bound) (rule range ∷ []) _ c.least_of.ensures
+
+pub returns-then-is_empty : goal.returns-then-is_empty
+returns-then-is_empty g c = grind (arith, common_steps)

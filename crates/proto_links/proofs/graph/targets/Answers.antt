@@ -1,4 +1,4 @@
-use Rattle.proto_links.proofs.Common.{take_all, ◌∙◌, sym, arith, inl, inr, false≢true, joined_if}
+use Rattle.proto_links.proofs.Common.{take_all, ◌∙◌, sym, arith, common_steps, inl, inr, false≢true, joined_if}
 use Rattle.proto_links.proofs.Faulting.{nothing_more, one_more, prefix_more, targeting_more}
 use Rattle.proto_links.proofs.graph.targets.Goals as goal
 use Rattle.proto_links.proofs.graph.targets.Goals.{in-Some+in_ok-push-in-Some+then-import+in_ok-push-in-Some-2, in-Some+in_ok-push-in-Some+else-import, in-None}
@@ -34,3 +34,9 @@ returns-clause-all c =
 pub returns-clause-public : goal.returns-clause-public
 returns-clause-public c =
     rw (take_all c.loop-import.import-index c.args.imports.now (omega arith)) at c.loop-import.invariant.public_are
+
+pub returns-clause-whole : goal.returns-clause-whole
+returns-clause-whole c = grind (arith, common_steps)
+
+pub returns-clause-part : goal.returns-clause-part
+returns-clause-part c = grind (arith, common_steps)

@@ -1,4 +1,4 @@
-use Rattle.proto_names.proofs.Common.{arith, nat_cmp, string_bytes, slice_cmp, IsPermutation-map}
+use Rattle.proto_names.proofs.Common.{arith, common_steps, nat_cmp, string_bytes, slice_cmp, IsPermutation-map}
 use Rattle.proto_names.proofs.Searching.{sorted_map}
 use Rattle.proto_names.proofs.Tabled.{all_taken}
 use Rattle.proto_names.proofs.index.taken_apart.Goals as goal
@@ -14,3 +14,6 @@ returns-clause-services c =
 
 pub returns-clause-order : goal.returns-clause-order
 returns-clause-order c = sorted_map string_bytes (slice_cmp nat_cmp) _ c.sort_unstable.ensures.sorted
+
+pub loop-share-preserved : goal.loop-share-preserved
+loop-share-preserved c = grind (arith, common_steps)

@@ -1,8 +1,8 @@
-use Rattle.proto_types.proofs.Common.{◌≡◌, arith, take_all, on_ok_weaker, scope_in}
+use Rattle.proto_types.proofs.Common.{◌≡◌, ◌∙◌, refl, append-nil, arith, take_all, on_ok_weaker, scope_in, references_by_message}
 use Rattle.std.proofs.lemmas.Grind.{common_steps}
 use Rattle.proto_types.proofs.Scoping.{candidate_inside}
 use Rattle.proto_types.proofs.Trees.{references_out}
-use Rattle.proto_types.proofs.Walking.{finds_both}
+use Rattle.proto_types.proofs.Walking.{finds_both, finds_next}
 use Rattle.proto_types.proofs.finder.Finder.+messages.Goals as goal
 
 pub message-own_fields-requires-clause-inner : goal.message-own_fields-requires-clause-inner
@@ -19,6 +19,27 @@ message-returns-clause-found t c =
     let inside = rw (c.in_ok-own_fields.ensures.same, c.in_ok-own_fields.ensures.inner, inner, c.as_slice.ensures)
     at c.messages.ensures.found in
     rw (references_out m scope) (on_ok_weaker c.messages.result (λ found. finds_both own found) inside)
+
+pub messages-loop-message-init : goal.messages-loop-message-init
+messages-loop-message-init t c = record {
+  so_far = λ before h. rw (append-nil before) h;
+  ready = c.requires;
+  scope = refl;
+  same = refl;
+}
+
+pub messages-loop-message-preserved : goal.messages-loop-message-preserved
+messages-loop-message-preserved t c =
+    let so_far = c.loop-message.invariant in
+    let next = c.in_ok-message.ensures in
+    record {
+      so_far = finds_next (λ m. references_by_message m c.args.outer.now.scope.now) c.args.messages.now
+          c.loop-message.message-index c.message-item.result c.loop-message-test.true c.message-item.is so_far.so_far
+          (rw (so_far.same, so_far.scope) at next.found);
+      ready = rw so_far.same at next.ready;
+      scope = next.scope ∙ so_far.scope;
+      same = next.same ∙ so_far.same;
+    }
 
 pub messages-returns-clause-found : goal.messages-returns-clause-found
 messages-returns-clause-found t c =

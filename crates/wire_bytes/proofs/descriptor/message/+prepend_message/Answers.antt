@@ -1,4 +1,5 @@
-use Rattle.std.proofs.Common.{refl}
+use Rattle.std.proofs.Common.{arith, refl}
+use Rattle.std.proofs.lemmas.Grind.{common_steps}
 use Rattle.std.proofs.lemmas.Result.{IfOk-equal}
 use Rattle.wire_bytes.specs.Descriptor.{message_desc_bytes}
 use Rattle.wire_format.specs.Field.{bytes_field}
@@ -21,3 +22,6 @@ returns t c = let nested = all_written (λ m. bytes_field 3 (message_desc_bytes 
       message_desc_bytes_out c.args.message.now,
       eight_parts,
     ) refl)
+
+pub loop-nested-preserved : goal.loop-nested-preserved
+loop-nested-preserved t c = grind (arith, common_steps)
