@@ -5,7 +5,7 @@ ghost use Rattle.proto_compile.specs.Compilation.{set_of};
 ghost use Rattle.proto_compile.specs.FaultSet.{IsLeastFault, TellsOf};
 ghost use Rattle.schema_commands.specs.Runs.{AreCompiledTo, IsAnswerRun, IsCompileRun, IsCompiledTo, IsDescribeRun, IsExplainRun, IsLineOf, IsSetRun, IsToldOf, IsToldOfFolder, IsToldOfTexts};
 
-use crate::set_writing::SetWriter;
+use crate::set_writing::{Chunk, SetWriter};
 use crate::whole_file::write_whole;
 use grpcweb_core::{CountedRead, CountedWrite, Mode, answer_io, read_bytes, write_bytes};
 use proto_base::{Limit, Limits};
@@ -138,9 +138,10 @@ where
         (O.writes writer.new) result }
 {
     let limits = Limits::standard();
+    let chunk = Chunk::new(rt.alloc())?;
     let texts = read_sources(rt, folder, &limits, plan)?;
     let compiled = compile_texts(rt, &texts, &limits, plan, Leftovers::Forgotten)?;
-    let mut set = SetWriter::new(rt.alloc(), &compiled)?;
+    let mut set = SetWriter::new(&compiled, chunk);
     let written = write_set(rt, file, &mut set, writer);
     drop(set);
     forget(compiled);
@@ -186,7 +187,9 @@ where
 {
     let limits = Limits::standard();
     let compiled = compile_folder(rt, folder, &limits, plan)?;
-    answer_io(rt, &compiled, plan, &NoGate, mode, reader, writer)?;
+    let exchanged = answer_io(rt, &compiled, plan, &NoGate, mode, reader, writer);
+    drop(compiled);
+    exchanged?;
     Ok(())
 }
 

@@ -35,13 +35,13 @@ pub(crate) fn write_part<O: CountedWrite>(bytes: &[u8], writer: &mut O) -> Resul
 /// Bytes of a set that are to be written together. It has its room from the first, so that no memory is asked for between
 /// two writes.
 #[derive(Drop)]
-struct Chunk {
+pub(crate) struct Chunk {
     bytes: Vec<u8>,
     ghost room: { 65_536 ≤ vec_capacity bytes },
 }
 
 impl Chunk {
-    fn new(alloc: Global) -> Result<Chunk, AllocError>
+    pub(crate) fn new(alloc: Global) -> Result<Chunk, AllocError>
         ensures { IfOk result (λ chunk. chunk.bytes.items ≡ []) }
     {
         let bytes = Vec::with_capacity(alloc, CHUNK)?;
@@ -124,14 +124,10 @@ pub(crate) struct SetWriter<'a> {
 }
 
 impl SetWriter<'_> {
-    pub(crate) fn new<'a>(
-        alloc: Global,
-        compiled: &'a Compiled,
-    ) -> Result<SetWriter<'a>, AllocError>
-        ensures { IfOk result (λ set. set.compiled ≡ compiled.entry) }
+    pub(crate) fn new<'a>(compiled: &'a Compiled, chunk: Chunk) -> SetWriter<'a>
+        ensures { result.compiled ≡ compiled.entry }
     {
-        let chunk = Chunk::new(alloc)?;
-        Ok(SetWriter { compiled, chunk })
+        SetWriter { compiled, chunk }
     }
 
     /// Writes the set to a writer, and flushes it.

@@ -7,12 +7,12 @@ returns-in_err-compiled g c =
     rw (handed_on c.from_residual.result _ c.from_residual.ensures.1)
     (c.standard-limits.result, c.standard-limits.ensures, inl (c.in_err-compiled.ensures.refused, refl, refl))
 
-pub returns-in_err-answer_io : goal.returns-in_err-answer_io
-returns-in_err-answer_io g c =
+pub returns-in_err-exchanged : goal.returns-in_err-exchanged
+returns-in_err-exchanged g c =
     let ok = c.in_ok-compiled in
-    let err = c.in_err-answer_io in
-    rw (handed_on c.from_residual-in_err-answer_io.result _ c.from_residual-in_err-answer_io.ensures.1) (
+    let err = c.in_err-exchanged in
+    rw (handed_on c.from_residual-in_err-exchanged.result _ c.from_residual-in_err-exchanged.ensures.1) (
       c.standard-limits.result,
       c.standard-limits.ensures,
-      inr (ok.compiled, ok.ensures.compiled, err.field-0.0, refl, err.ensures.exchange),
+      inr (ok.compiled, ok.ensures.compiled, err.field-0.0, refl, rw err.was at c.answer_io-exchanged.ensures.exchange),
     )
