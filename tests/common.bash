@@ -78,8 +78,7 @@ find_built() {
     local crate=$1
     shift
     program=$PWD/crates/$crate/out/$crate
-    if [ ! -x "$program" ] || [ -n "$(find crates crates.txt \( -name out -prune \) -o -type f \
-        \( -name '*.rt' -o -name '*.antt' -o -name crates.txt \) -newer "$program" -print -quit)" ]; then
+    if ! (. ./build && is_built "$crate"); then
         if ! (cd "crates/$crate" && rt run "$@") </dev/null >"$folder/build" 2>&1; then
             echo "$0: $crate was not built: $(tail -n 3 "$folder/build")"
             exit 1
