@@ -341,11 +341,18 @@ said '1 of 4 crates proved; at work: middle'
 rm -r "$store"/proof-low-*
 stopped_by INT 130
 said 'build: stopped; what is proved is kept, and the next call goes on from there. Not kept are: low'
-chown 65534 "$store" 2>/dev/null || { rm -r "$store" && ln -s / "$store"; }
+mv "$store" "$folder/elsewhere" && ln -s elsewhere "$store"
 call build
 said "build: Ctrl-C ends it, and the next call begins anew, since rt can keep nothing in $store"
 stopped_by INT 130
-rm -r "$store"
+rm "$store"
+if [ "$(id -u)" = 0 ]; then
+    chown 1 "$folder/elsewhere" && mv "$folder/elsewhere" "$store"
+    call build
+    said "begins anew, since rt can keep nothing in $store"
+    stopped_by INT 130
+    rm -r "$store"
+fi
 echo 'Nothing' >"$folder/help"
 call build
 said 'build: Ctrl-C ends it, and the next call begins anew, since this kit keeps nothing'
