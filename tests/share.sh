@@ -89,7 +89,7 @@ fi
 
 # What malloc is told, as ./schema_server tells it. The man page has a line for each.
 tunables=$(sed -n 's/^tunables=//p' schema_server)
-for place in docs/GUIDE.md examples/service/schema-server.service; do
+for place in docs/GUIDE.md examples/service/schema-server.service share/wrapper; do
     grep -qF -e "${tunables:?}" "$place" || fail "$place has other tunables than ./schema_server"
 done
 sed -n 's/^\.Dl \(glibc\.\)/\1/p' "$page" | paste -sd : >"$folder/page.tunables"
@@ -98,7 +98,7 @@ sed -n 's/^\.Dl \(glibc\.\)/\1/p' "$page" | paste -sd : >"$folder/page.tunables"
 # The lines of docs/GUIDE.md that install it, with another folder for /usr/local.
 grep -o 'sudo install -D [^`]*' docs/GUIDE.md | sed "s|^sudo ||; s| /usr/local/| $folder/local/|" >"$folder/install"
 bash "$folder/install" || fail 'a line of docs/GUIDE.md that installs it fails'
-diff -r share "$folder/local/share" || fail 'docs/GUIDE.md installs something else'
+diff -r -x release -x wrapper share "$folder/local/share" || fail 'docs/GUIDE.md installs something else'
 [ -z "$(find "$folder/local" -type f ! -perm 644)" ] || fail 'what docs/GUIDE.md installs is not for all to read'
 
 # completed WORDS..: what the completion offers for the last of these words of a line, sorted, in the file `completed`.
