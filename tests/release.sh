@@ -13,8 +13,9 @@ package=sagetower_${version}_amd64.deb
 tarball=sagetower-$version-linux-x86_64.tar.gz
 unset GLIBC_TUNABLES GIT_DIR GIT_WORK_TREE GIT_INDEX_FILE
 export SCHEMA_SERVER=$built GIT_CONFIG_GLOBAL=/dev/null GIT_CONFIG_SYSTEM=/dev/null
-export GIT_AUTHOR_NAME=A GIT_AUTHOR_EMAIL=a@example.org GIT_AUTHOR_DATE=2026-01-02T03:04:05Z
-export GIT_COMMITTER_NAME=A GIT_COMMITTER_EMAIL=a@example.org GIT_COMMITTER_DATE=2026-01-02T03:04:05Z
+# The commit is of a time to come, which no file has by itself.
+export GIT_AUTHOR_NAME=A GIT_AUTHOR_EMAIL=a@example.org GIT_AUTHOR_DATE=2037-01-02T03:04:05Z
+export GIT_COMMITTER_NAME=A GIT_COMMITTER_EMAIL=a@example.org GIT_COMMITTER_DATE=2037-01-02T03:04:05Z
 clone=$folder/clone
 mkdir -p "$clone/crates" && cp -r .gitignore CHANGELOG.md README.md docs examples share tests "$clone" || exit 2
 [ ! -f LICENSE ] || cp LICENSE "$clone" || exit 2
@@ -67,7 +68,7 @@ FILES
 
 # wanted PREFIX: what `listed` prints of these files in a tar, where this stands before their paths.
 wanted() {
-    sed "s|^755 |-rwxr-xr-x 0/0 2026-01-02 03:04:05 $1|; s|^644 |-rw-r--r-- 0/0 2026-01-02 03:04:05 $1|" | sort -k 5
+    sed "s|^755 |-rwxr-xr-x 0/0 2037-01-02 03:04:05 $1|; s|^644 |-rw-r--r-- 0/0 2037-01-02 03:04:05 $1|" | sort -k 5
 }
 listed() {
     TZ=UTC tar -tv --full-time --numeric-owner | awk '{ print $1, $2, $4, $5, $6 }' | sort -k 5
@@ -79,7 +80,7 @@ same "files of $tarball" "$folder/wanted" "$folder/got"
 dpkg-deb --fsys-tarfile "$out/$package" | listed >"$folder/all"
 grep -v '^d' "$folder/all" >"$folder/got"
 same "files of $package" "$folder/wanted" "$folder/got"
-grep '^d' "$folder/all" | grep -v '^drwxr-xr-x 0/0 2026-01-02 03:04:05 ' && fail 'folders of another mode, owner or time'
+grep '^d' "$folder/all" | grep -v '^drwxr-xr-x 0/0 2037-01-02 03:04:05 ' && fail 'folders of another mode, owner or time'
 
 # What the package says of itself. The C library is as new as the program's symbols ask, and as docs/GUIDE.md says.
 [ "$(dpkg-deb -f "$out/$package" Package Version Architecture | paste -sd ,)" = "Package: sagetower,Version: $version,Architecture: amd64" ] ||
@@ -228,7 +229,7 @@ mkdir -p "$home/.local/share" "$home/programs" && ln -s ../programs "$home/.loca
 line() {
     local line
     line=$(grep -o "\`[^\`]*$1[^\`]*\`" docs/GUIDE.md | tr -d '\`')
-    (cd "$out" && HOME=$home bash -c "${line:?}") || fail "docs/GUIDE.md: $line"
+    (cd "$out" && HOME=$home bash -c "${line:?}") >"$folder/said" 2>&1 || fail "docs/GUIDE.md: $line: $(tail -n 1 "$folder/said")"
 }
 line 'tar -xzf [^ ]* -C ~'
 [ "$(stat -c %a "$home/.local" "$home/.local/share" | paste -sd ' ')" = '700 700' ] || fail 'a folder has another mode'
