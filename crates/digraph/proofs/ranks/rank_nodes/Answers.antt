@@ -1,4 +1,5 @@
 use Rattle.std.proofs.Common.{inl, ◌≡◌, ◌∙◌, ap, ℕ, ◌<◌, length, length-append, arith, refl}
+use Rattle.digraph.proofs.Common.{common_steps}
 use Rattle.digraph.proofs.Levels.{passed_none, empty_from, levels_next, levels_ranked, levels_order, levels_stuck, round_shorter}
 use Rattle.digraph.proofs.Rows.{no_items, written, length_graph}
 use Rattle.digraph.proofs.ranks.rank_nodes.Goals as goal
@@ -46,6 +47,9 @@ pub next_ready-requires-clause-settled : goal.next_ready-requires-clause-settled
 next_ready-requires-clause-settled c b w =
     let below = ((c.loop-alloc.invariant.ready b).0 (rw c.deref-in-loop-alloc-4.ensures.value at w)).0 in
     omega (arith, c.in_ok-turned.ensures.size, length_graph c.args.graph.now)
+
+pub next_ready-requires-clause-passed : goal.next_ready-requires-clause-passed
+next_ready-requires-clause-passed c = grind (arith, common_steps)
 
 pub loop-alloc-smaller : goal.loop-alloc-smaller
 loop-alloc-smaller c =
