@@ -9,7 +9,8 @@ use crate::paths::{is_proto, join_path};
 use crate::reason::Reason;
 use crate::trouble::FolderTrouble;
 use std::alloc::{AllocError, AllocGlobal, Global};
-use std::fs;
+use std::fs::{self, DirEntry};
+use std::io;
 use std::rt::Files;
 
 /// How many folders below the root a folder may be.
@@ -147,7 +148,45 @@ impl Walk {
         Ok(())
     }
 
-    /// Takes in what a folder holds.
+    /// Takes in an entry of a folder as the system listed it.
+    fn take_listed<R: Files + AllocGlobal>(
+        &mut self,
+        rt: &R,
+        folder: &Folder,
+        whole: &str,
+        entry: io::Result<DirEntry<&R>>,
+    ) -> Result<(), FolderTrouble>
+        ensures ends { OnOk result (steps_left self.new ≤ steps_left self.old) }
+        ensures counted { OnOk result (most_sources self.new ≤ most_sources self.old) }
+    {
+        match entry {
+            Ok(entry) => self.take_entry(rt, folder, entry.path().as_str(), entry.file_name()),
+            Err(error) => Err(FolderTrouble::listing(rt.alloc(), whole, &error)),
+        }
+    }
+
+    /// Takes in what a folder with this whole path holds.
+    fn take_all<R: Files + AllocGlobal>(
+        &mut self,
+        rt: &R,
+        folder: &Folder,
+        whole: &str,
+    ) -> Result<(), FolderTrouble>
+        ensures ends { OnOk result (steps_left self.new ≤ steps_left self.old) }
+        ensures counted { OnOk result (most_sources self.new ≤ most_sources self.old) }
+    {
+        let listed = fs::read_dir(&rt, whole);
+        let entries = match listed {
+            Ok(entries) => entries,
+            Err(error) => return Err(FolderTrouble::listing(rt.alloc(), whole, &error)),
+        };
+        for entry in entries {
+            self.take_listed(rt, folder, whole, entry)?;
+        }
+        Ok(())
+    }
+
+    /// Goes to a folder, and takes in what it holds.
     fn list<R: Files + AllocGlobal>(
         &mut self,
         rt: &R,
@@ -157,17 +196,9 @@ impl Walk {
         ensures ends { OnOk result (steps_left self.new ≤ steps_left self.old) }
         ensures counted { OnOk result (most_sources self.new ≤ most_sources self.old) }
     {
-        let alloc = rt.alloc();
         self.enter(folder)?;
-        let whole = join_path(alloc, root, folder.path.as_str())?;
-        let whole = whole.as_str();
-        let listed = fs::read_dir(&rt, whole);
-        let entries = listed.map_err(|error| FolderTrouble::listing(alloc, whole, &error))?;
-        for entry in entries {
-            let entry = entry.map_err(|error| FolderTrouble::listing(alloc, whole, &error))?;
-            self.take_entry(rt, folder, entry.path().as_str(), entry.file_name())?;
-        }
-        Ok(())
+        let whole = join_path(rt.alloc(), root, folder.path.as_str())?;
+        self.take_all(rt, folder, whole.as_str())
     }
 }
 
