@@ -1,14 +1,16 @@
 //! Enums (language guide, "Enumerations").
 
 ghost use Rattle.std.specs.Prelude.{◌≡◌, ◌∷◌, ◌++◌, [], OnOk, map, flat_map};
-ghost use Rattle.proto_options.specs.Statements.{enum_value};
+ghost use Rattle.proto_options.specs.Statements.{enum_reserved, enum_value, names_in, ranges_in};
+ghost use Rattle.proto_tree.specs.Text.{joined};
 ghost use Rattle.proto_lower.specs.Enums.{value_desc, lowered_enum};
+ghost use Rattle.proto_lower.specs.Reserveds.{enum_range};
 
 use crate::options::{bracketed_options, options_of};
-use crate::reserved::{enum_ranges, number_of_literal, reserved_names};
+use crate::reserved::{enum_ranges, number_of_literal, put_reserved_names};
 use proto_base::row::Row;
 use proto_base::text::Text;
-use proto_desc::enumeration::{EnumDesc, ValueDesc};
+use proto_desc::enumeration::{EnumDesc, EnumReservedRange, ValueDesc};
 use proto_desc::identifier::Identifier;
 use proto_desc::rules::Element;
 use proto_tree::{Enum, EnumItem, EnumValue};
@@ -58,6 +60,34 @@ fn value_count(items: &[EnumItem]) -> usize {
     count
 }
 
+/// What the statements of an enum give, but for its options.
+#[derive(Drop)]
+struct Parts<'s> {
+    values: Vec<ValueDesc<'s>>,
+    reserved_ranges: Vec<EnumReservedRange>,
+    reserved_names: Vec<Text<'s>>,
+}
+
+/// Adds the values of these statements, and sets what they reserve.
+fn put_parts<'s>(
+    alloc: Global,
+    out: &mut Parts<'s>,
+    items: &[EnumItem<'s>],
+) -> Result<(), AllocError>
+    ensures values { OnOk result (out.new.values.items
+        ≡ out.old.values.items ++ map value_desc (flat_map enum_value items.now)) }
+    ensures ranges { OnOk result (out.new.reserved_ranges.items
+        ≡ map enum_range (flat_map ranges_in (flat_map enum_reserved items.now))) }
+    ensures names { OnOk result (out.new.reserved_names.items
+        ≡ out.old.reserved_names.items
+        ++ map joined (flat_map names_in (flat_map enum_reserved items.now))) }
+{
+    out.values.reserve_exact(value_count(items))?;
+    put_values(alloc, &mut out.values, items)?;
+    out.reserved_ranges = enum_ranges(alloc, items)?;
+    put_reserved_names(alloc, &mut out.reserved_names, items)
+}
+
 /// Adds the descriptor of an enum.
 pub(crate) fn put_enum<'s>(
     alloc: Global,
@@ -68,15 +98,19 @@ pub(crate) fn put_enum<'s>(
 {
     let items = declared.items.as_slice();
     let options = options_of(alloc, Element::Enum, items)?;
-    let mut values = Vec::with_capacity(alloc, value_count(items))?;
-    put_values(alloc, &mut values, items)?;
+    let mut parts = Parts {
+        values: Vec::new(alloc),
+        reserved_ranges: Vec::new(alloc),
+        reserved_names: Vec::new(alloc),
+    };
+    put_parts(alloc, &mut parts, items)?;
     out.push(EnumDesc {
         name: Text::borrowed(declared.name.text),
         place: declared.name.span.start,
-        values: Row::from_vec(values),
+        values: Row::from_vec(parts.values),
         options,
-        reserved_ranges: Row::from_vec(enum_ranges(alloc, items)?),
-        reserved_names: Row::from_vec(reserved_names(alloc, items)?),
+        reserved_ranges: Row::from_vec(parts.reserved_ranges),
+        reserved_names: Row::from_vec(parts.reserved_names),
     })?;
     Ok(())
 }

@@ -5,7 +5,9 @@ ghost use Rattle.proto_lower.specs.Fields.{inner};
 ghost use Rattle.proto_lower.specs.Messages.{entry_field, entry_fields, entry_of, all_fields, message_of, nested_of, lowered_message};
 ghost use Rattle.proto_lower.specs.Oneofs.{real_oneofs, names_of_fields, with_made};
 ghost use Rattle.proto_lower.specs.Enums.{lowered_enum};
-ghost use Rattle.proto_options.specs.Statements.{message_enum};
+ghost use Rattle.proto_lower.specs.Reserveds.{message_range};
+ghost use Rattle.proto_options.specs.Statements.{message_enum, message_reserved, names_in, ranges_in};
+ghost use Rattle.proto_tree.specs.Text.{joined};
 
 use crate::enumeration::put_enum;
 use crate::field::{inner_name, put_fields, real_count};
@@ -13,7 +15,7 @@ use crate::item_counts::ItemCounts;
 use crate::names::entry_name;
 use crate::oneof::put_oneofs;
 use crate::options::options_of;
-use crate::reserved::{message_ranges, reserved_names};
+use crate::reserved::{message_ranges, put_reserved_names};
 use crate::shared_scope::SharedScope;
 use crate::type_name::{field_kind, scalar_of_key};
 use proto_base::Place;
@@ -23,7 +25,7 @@ use proto_desc::enumeration::EnumDesc;
 use proto_desc::field::{FieldDesc, FieldKind, FieldLabel};
 use proto_desc::identifier::Identifier;
 use proto_desc::json_name::JsonName;
-use proto_desc::message::MessageDesc;
+use proto_desc::message::{MessageDesc, ReservedRange};
 use proto_desc::oneof::OneofDesc;
 use proto_desc::rules::Element;
 use proto_tree::{MapField, Message, MessageItem, Name};
@@ -107,21 +109,36 @@ fn put_enums<'s>(
     Ok(())
 }
 
-/// The fields, the oneofs and the enums of a message.
+/// What the statements of a message give, but for its nested messages and its options.
 #[derive(Drop)]
 struct Parts<'s> {
     fields: Vec<FieldDesc<'s>>,
     oneofs: Vec<OneofDesc<'s>>,
     enums: Vec<EnumDesc<'s>>,
+    reserved_ranges: Vec<ReservedRange>,
+    reserved_names: Vec<Text<'s>>,
 }
 
-/// Adds those of the statements of the message of this name in the scope.
+/// Makes room for as much as this.
+fn make_room(out: &mut Parts, counts: ItemCounts) -> Result<(), AllocError>
+    ensures fields { OnOk result (out.new.fields.items ≡ out.old.fields.items) }
+    ensures oneofs { OnOk result (out.new.oneofs.items ≡ out.old.oneofs.items) }
+    ensures enums { OnOk result (out.new.enums.items ≡ out.old.enums.items) }
+    ensures names { OnOk result (out.new.reserved_names.items ≡ out.old.reserved_names.items) }
+{
+    out.fields.reserve_exact(counts.fields)?;
+    out.oneofs.reserve_exact(counts.oneofs)?;
+    out.enums.reserve_exact(counts.enums)
+}
+
+/// Adds what these statements of the message of this name in the scope declare, which is so much, and sets what they reserve.
 fn put_parts<'s>(
     alloc: Global,
     out: &mut Parts<'s>,
     scope: &mut SharedScope,
     message: &str,
     items: &[MessageItem<'s>],
+    counts: ItemCounts,
 ) -> Result<(), AllocError>
     ensures same { scope.new ≡ scope.old }
     ensures fields { OnOk result (out.new.fields.items
@@ -131,7 +148,13 @@ fn put_parts<'s>(
         (out.old.oneofs.items ++ real_oneofs items.now) out.new.fields.items) }
     ensures enums { OnOk result (out.new.enums.items
         ≡ out.old.enums.items ++ map lowered_enum (flat_map message_enum items.now)) }
+    ensures ranges { OnOk result (out.new.reserved_ranges.items
+        ≡ map message_range (flat_map ranges_in (flat_map message_reserved items.now))) }
+    ensures names { OnOk result (out.new.reserved_names.items
+        ≡ out.old.reserved_names.items
+        ++ map joined (flat_map names_in (flat_map message_reserved items.now))) }
 {
+    make_room(out, counts)?;
     put_fields(
         alloc,
         &mut out.fields,
@@ -141,7 +164,9 @@ fn put_parts<'s>(
         real_count(items),
     )?;
     put_oneofs(alloc, &mut out.oneofs, items, out.fields.as_slice())?;
-    put_enums(alloc, &mut out.enums, items)
+    put_enums(alloc, &mut out.enums, items)?;
+    out.reserved_ranges = message_ranges(alloc, items)?;
+    put_reserved_names(alloc, &mut out.reserved_names, items)
 }
 
 /// Adds the message of this name in the scope and these statements, which declare so much, with the descriptors of its
@@ -161,11 +186,13 @@ fn put_message_of<'s>(
 {
     let options = options_of(alloc, Element::Message, items)?;
     let mut parts = Parts {
-        fields: Vec::with_capacity(alloc, counts.fields)?,
-        oneofs: Vec::with_capacity(alloc, counts.oneofs)?,
-        enums: Vec::with_capacity(alloc, counts.enums)?,
+        fields: Vec::new(alloc),
+        oneofs: Vec::new(alloc),
+        enums: Vec::new(alloc),
+        reserved_ranges: Vec::new(alloc),
+        reserved_names: Vec::new(alloc),
     };
-    put_parts(alloc, &mut parts, scope, name.text, items)?;
+    put_parts(alloc, &mut parts, scope, name.text, items, counts)?;
     out.push(MessageDesc {
         name: Text::borrowed(name.text),
         place: name.span.start,
@@ -173,8 +200,8 @@ fn put_message_of<'s>(
         nested,
         enums: Row::from_vec(parts.enums),
         oneofs: Row::from_vec(parts.oneofs),
-        reserved_ranges: Row::from_vec(message_ranges(alloc, items)?),
-        reserved_names: Row::from_vec(reserved_names(alloc, items)?),
+        reserved_ranges: Row::from_vec(parts.reserved_ranges),
+        reserved_names: Row::from_vec(parts.reserved_names),
         options,
         is_map_entry: false,
     })?;

@@ -85,18 +85,19 @@ fn put_reserved<'s>(
     Ok(())
 }
 
-/// The names that statements reserve.
-pub(crate) fn reserved_names<'s, I: Reserves<'s>>(
+/// Adds the names that statements reserve.
+pub(crate) fn put_reserved_names<'s, I: Reserves<'s>>(
     alloc: Global,
+    out: &mut Vec<Text<'s>>,
     items: &[I],
-) -> Result<Vec<Text<'s>>, AllocError>
-    ensures { IfOk result (λ names. names.items
-        ≡ map joined (flat_map names_in (flat_map I.reserved_by items.now))) }
+) -> Result<(), AllocError>
+    ensures { OnOk result (out.new.items ≡ out.old.items
+        ++ map joined (flat_map names_in (flat_map I.reserved_by items.now))) }
 {
     let listed = names_listed(alloc, items)?;
-    let mut names = Vec::with_capacity(alloc, listed.len())?;
+    out.reserve_exact(listed.len())?;
     for name in listed {
-        put_reserved(alloc, &mut names, name)?;
+        put_reserved(alloc, out, name)?;
     }
-    Ok(names)
+    Ok(())
 }

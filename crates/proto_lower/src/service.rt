@@ -1,6 +1,6 @@
 //! Services and methods (language guide, "Defining Services").
 
-ghost use Rattle.std.specs.Prelude.{◌≡◌, ◌∷◌, ◌++◌, [], IfOk, OnOk, map, flat_map};
+ghost use Rattle.std.specs.Prelude.{◌≡◌, ◌∷◌, ◌++◌, [], OnOk, map, flat_map};
 ghost use Rattle.proto_options.specs.Statements.{service_rpc};
 ghost use Rattle.proto_lower.specs.Services.{method_desc, lowered_service};
 
@@ -45,17 +45,22 @@ fn method_count(items: &[ServiceItem]) -> usize {
     count
 }
 
-fn methods<'s>(alloc: Global, items: &[ServiceItem<'s>]) -> Result<Row<MethodDesc<'s>>, AllocError>
-    ensures { IfOk result (λ methods. methods
-        ≡ map method_desc (flat_map service_rpc items.now)) }
+/// Adds the methods among these statements.
+fn put_methods<'s>(
+    alloc: Global,
+    out: &mut Vec<MethodDesc<'s>>,
+    items: &[ServiceItem<'s>],
+) -> Result<(), AllocError>
+    ensures { OnOk result (out.new.items
+        ≡ out.old.items ++ map method_desc (flat_map service_rpc items.now)) }
 {
-    let mut methods = Vec::with_capacity(alloc, method_count(items))?;
+    out.reserve_exact(method_count(items))?;
     for item in items {
         if let ServiceItem::Rpc(rpc) = item {
-            put_method(alloc, &mut methods, rpc.get())?;
+            put_method(alloc, out, rpc.get())?;
         }
     }
-    Ok(Row::from_vec(methods))
+    Ok(())
 }
 
 /// Adds the descriptor of a service.
@@ -67,10 +72,12 @@ pub(crate) fn put_service<'s>(
     ensures { OnOk result (out.new.items ≡ out.old.items ++ lowered_service service.now ∷ []) }
 {
     let items = service.items.as_slice();
+    let mut methods = Vec::new(alloc);
+    put_methods(alloc, &mut methods, items)?;
     out.push(ServiceDesc {
         name: Text::borrowed(service.name.text),
         place: service.name.span.start,
-        methods: methods(alloc, items)?,
+        methods: Row::from_vec(methods),
         options: options_of(alloc, Element::Service, items)?,
     })?;
     Ok(())
