@@ -56,6 +56,14 @@ fn count_argument<'a>(
         .help(help)
 }
 
+/// The command with one more argument, if there was memory for all so far.
+fn with_argument<'a>(
+    command: Result<Command<'a>, AllocError>,
+    argument: Arg<'a>,
+) -> Result<Command<'a>, AllocError> {
+    command?.arg(argument)
+}
+
 /// A command over sources, with the arguments that say which, and by how many workers.
 fn source_command<'a>(
     alloc: Global,
@@ -64,13 +72,15 @@ fn source_command<'a>(
 ) -> Result<Command<'a>, AllocError> {
     let workers_help = "how many workers share the work, 1 to 64";
     let cut_help = "the most files that a worker takes at a time, 1 to 4096";
-    Command::new(alloc, name)
+    let command = Command::new(alloc, name)
         .about(about)
-        .arg(root_argument(alloc))?
-        .arg(include_argument(alloc))?
-        .arg(count_argument(alloc, "workers", 64, "4", workers_help))?
-        .arg(count_argument(alloc, "cut", 4096, "16", cut_help))?
-        .arg(files_argument(alloc))
+        .arg(root_argument(alloc));
+    let command = with_argument(command, include_argument(alloc));
+    let workers = count_argument(alloc, "workers", 64, "4", workers_help);
+    let command = with_argument(command, workers);
+    let cut = count_argument(alloc, "cut", 4096, "16", cut_help);
+    let command = with_argument(command, cut);
+    with_argument(command, files_argument(alloc))
 }
 
 fn output_argument<'a>(alloc: Global) -> Arg<'a> {
@@ -82,7 +92,10 @@ fn output_argument<'a>(alloc: Global) -> Arg<'a> {
 
 fn compile_command<'a>(alloc: Global) -> Result<Command<'a>, AllocError> {
     let about = "Compiles the proto3 sources below a folder and writes their FileDescriptorSet";
-    source_command(alloc, "compile", about)?.arg(output_argument(alloc))
+    with_argument(
+        source_command(alloc, "compile", about),
+        output_argument(alloc),
+    )
 }
 
 fn check_command<'a>(alloc: Global) -> Result<Command<'a>, AllocError> {
@@ -101,7 +114,10 @@ fn repeat_argument<'a>(alloc: Global) -> Arg<'a> {
 fn answer_command<'a>(alloc: Global) -> Result<Command<'a>, AllocError> {
     let about =
         "Reads the request body of a gRPC-Web reflection stream from standard input and writes the response body";
-    source_command(alloc, "answer", about)?.arg(repeat_argument(alloc))
+    with_argument(
+        source_command(alloc, "answer", about),
+        repeat_argument(alloc),
+    )
 }
 
 fn listen_argument<'a>(alloc: Global) -> Arg<'a> {
@@ -122,10 +138,10 @@ fn connections_argument<'a>(alloc: Global) -> Arg<'a> {
 
 fn serve_command<'a>(alloc: Global) -> Result<Command<'a>, AllocError> {
     let about = "Serves gRPC reflection as gRPC-Web over HTTP/1.1, one connection after the other";
-    source_command(alloc, "serve", about)?
-        .arg(listen_argument(alloc))?
-        .arg(connections_argument(alloc))?
-        .arg(repeat_argument(alloc))
+    let command = source_command(alloc, "serve", about);
+    let command = with_argument(command, listen_argument(alloc));
+    let command = with_argument(command, connections_argument(alloc));
+    with_argument(command, repeat_argument(alloc))
 }
 
 fn describe_command<'a>(alloc: Global) -> Result<Command<'a>, AllocError> {
@@ -154,12 +170,13 @@ fn explain_command<'a>(alloc: Global) -> Result<Command<'a>, AllocError> {
         .arg(words)
 }
 
-/// The command with one of its own commands, if there was memory for that.
+/// The command with one of its own commands, if there was memory for both.
 fn with_command<'a>(
-    command: Command<'a>,
+    command: Result<Command<'a>, AllocError>,
     added: Result<Command<'a>, AllocError>,
 ) -> Result<Command<'a>, AllocError> {
-    command.subcommand(added?)
+    let added = added?;
+    command?.subcommand(added)
 }
 
 /// The program, with its commands.
@@ -171,10 +188,10 @@ pub(crate) fn whole_command<'a>(alloc: Global) -> Result<Command<'a>, AllocError
         .after_help(STATUSES)
         .version(VERSION)
         .subcommand_required(true);
-    let command = with_command(command, compile_command(alloc))?;
-    let command = with_command(command, check_command(alloc))?;
-    let command = with_command(command, serve_command(alloc))?;
-    let command = with_command(command, answer_command(alloc))?;
-    let command = with_command(command, describe_command(alloc))?;
+    let command = with_command(Ok(command), compile_command(alloc));
+    let command = with_command(command, check_command(alloc));
+    let command = with_command(command, serve_command(alloc));
+    let command = with_command(command, answer_command(alloc));
+    let command = with_command(command, describe_command(alloc));
     with_command(command, explain_command(alloc))
 }
