@@ -2,9 +2,6 @@ use Rattle.share_work.proofs.Common.{common_steps, div_ceil_times, rules, ◌≡
 use Rattle.share_work.proofs.PieceRows.{gains_same, gains_joined, haves_idle, haves_joined, OnOk-all}
 use Rattle.share_work.proofs.shares.rows.all_rows.Goals as goal
 
-pub busy_rows-requires : goal.busy_rows-requires
-busy_rows-requires g c = grind (arith, common_steps)
-
 pub returns-in_err-rows-clause-fit : goal.returns-in_err-rows-clause-fit
 returns-in_err-rows-clause-fit g c = grind (arith, common_steps)
 
