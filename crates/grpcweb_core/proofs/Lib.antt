@@ -1,3 +1,2 @@
 mod Judging
-mod Moving
 mod OneAnswer

@@ -3,7 +3,7 @@ use Rattle.std.specs.Prelude.{◌≡◌, ◌≢◌, ◌⊎◌, ℕ, List, [], �
 use Rattle.std.specs.Char.{to_ascii_lowercase}
 use Rattle.first_reach.specs.declared.mode.Mode.{Mode}
 use Rattle.grpcweb_core.specs.declared.mapping.HttpAnswer.{HttpAnswer}
-use Rattle.proto_compile.specs.Compilation.{Compilation}
+use Rattle.proto_compilation.specs.Compilation.{Compilation}
 use Rattle.reflect_core.specs.Response.{IsResponse, trailer}
 use Rattle.reflect_requests.specs.Frames.{frame}
 

@@ -1,20 +1,17 @@
 //! The mapping of a reflection stream to what carries it: a request over HTTP, or a reader and a writer.
 //!
 //! The standards are gRPC's PROTOCOL-WEB.md and RFC 9110. What a body is answered is said by the crate `reflect_core`, whose
-//! `Mode` is a type of this crate's calls too.
+//! `Mode` is a type of this crate's calls too, and what a reader and a writer do by `counted_io`.
 #![tactic(auto)]
 
 mod content_type;
-mod counted;
 mod exchange;
 mod laws;
 mod mapping;
-mod stream;
 mod target;
 
-pub use counted::Counted;
-pub use exchange::{answer_io, read_bytes, write_bytes};
+pub use counted_io::{Counted, CountedRead, CountedWrite, IoFault, read_bytes, write_bytes};
+pub use exchange::answer_io;
 pub use laws::answers_are_unique;
 pub use mapping::{HttpAnswer, respond};
 pub use reflect_core::Mode;
-pub use stream::{CountedRead, CountedWrite, IoFault};

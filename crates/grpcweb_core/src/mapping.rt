@@ -5,7 +5,7 @@ ghost use Rattle.grpcweb_core.specs.Http.{IsAnswerOverHttp, IsGrpcWebIfAny, answ
 
 use crate::content_type::is_grpc_web;
 use crate::target::is_reflection;
-use proto_compile::Compiled;
+use proto_compilation::Compiled;
 use reflect_core::{Mode, answer_body, response_without_replies};
 use reflect_requests::Status;
 use share_work::{Gate, Plan};

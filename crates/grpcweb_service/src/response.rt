@@ -4,7 +4,7 @@ ghost use Rattle.std.specs.Prelude.{◌≡◌, ◌+◌, ◌-◌, ◌*◌, ◌/�
 
 use grpcweb_core::{HttpAnswer, Mode, respond};
 use http::{HeaderName, HeaderValue, Request, Response, StatusCode, header};
-use proto_compile::Compiled;
+use proto_compilation::Compiled;
 use share_work::{Gate, Plan};
 use std::alloc::{AllocError, AllocGlobal, Global};
 use std::thread::Threads;

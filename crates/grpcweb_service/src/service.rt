@@ -5,13 +5,12 @@ ghost use Rattle.std.specs.Arc.{arc_value};
 ghost use Rattle.std.specs.Thread.{IsSync};
 
 use crate::response::response_to;
-use device_error::ServeFault;
 use grpcweb_core::Mode;
 use http::{Request, Response};
-use http_connection::{Responder, serve_next};
+use http_connection::{Responder, ServeFault, serve_next};
 use hyper::server::conn::http1;
 use proto_base::Limit;
-use proto_compile::Compiled;
+use proto_compilation::Compiled;
 use share_work::{Gate, Plan};
 use std::alloc::{AllocError, AllocGlobal};
 use std::hash::RandomState;

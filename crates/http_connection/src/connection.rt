@@ -3,8 +3,8 @@
 ghost use Rattle.std.specs.Arc.{arc_value};
 
 use crate::responder::Responder;
+use crate::serve_fault::ServeFault;
 use crate::service::ResponderService;
-use device_error::ServeFault;
 use hyper::server::conn::http1;
 use std::alloc::AllocGlobal;
 use std::random::RandomSource;

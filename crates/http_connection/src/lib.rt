@@ -6,7 +6,9 @@ mod connection;
 mod fault;
 mod receive;
 mod responder;
+mod serve_fault;
 mod service;
 
 pub use connection::serve_next;
 pub use responder::Responder;
+pub use serve_fault::ServeFault;

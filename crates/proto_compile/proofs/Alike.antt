@@ -5,7 +5,7 @@ use Rattle.std.specs.Cmp.{nat_eq_equiv}
 use Rattle.std.proofs.lemmas.Map.Views.{Contains-from_any, list_any-from_Contains}
 use Rattle.proto_links.proofs.Whole.{whole_of}
 use Rattle.proto_names.specs.Index.{name_of}
-use Rattle.proto_compile.specs.Alike.{AreAlike}
+use Rattle.proto_compilation.specs.Alike.{AreAlike}
 use Rattle.proto_compile.proofs.OneCompilation.{one_written}
 use Rattle.proto_compile.proofs.OneTyping.{one_analysed, as_many, same_length}
 use Rattle.proto_compile.proofs.Sorting.{moved, one_sorted}

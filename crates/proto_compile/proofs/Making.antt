@@ -1,12 +1,13 @@
--- What sources are compiled to.
-use Rattle.proto_compile.proofs.Common.{◌≡◌, ◌∙◌, sym, ap, subst, refl, ℕ, ◌<◌, ◌≤◌, List, map, length, arith, All, ◌+◌, Bool, true, inl, inr, [], ◌∷◌, get_or, Option, Some, None, Contains, IsPermutation, filter, AllZip, length-map, get_or_default, FileDesc, Linked, count_of, Index, Indexes, services_of, is_service_kind, Limits, file_desc_bytes, AreResolved, CompiledFile, IsShort, IsWritten, file_bytes, file_name, set_of, SourceDescribes, compilation, Source, cases_lt, false≢true, All-append, All-contains, All-map, All-nil, All-permutation, Contains-permutation, IsPermutation-sym, length_permutation, count_by-le-length, length-filter, spot, declared_by, full_name, Occurrence, declared_occurrence, occurrences, occurrences_from, occurrences_of, package_occurrence, package_occurrences}
+-- What sources are compiled to is sound.
+use Rattle.proto_compile.proofs.Common.{◌≡◌, ◌∙◌, sym, ap, subst, refl, ℕ, ◌<◌, ◌≤◌, List, map, length, arith, All, ◌+◌, Bool, true, inl, inr, [], ◌∷◌, get_or, Option, Some, None, Contains, IsPermutation, filter, AllZip, length-map, get_or_default, FileDesc, Linked, count_of, Index, Indexes, services_of, is_service_kind, Limits, file_desc_bytes, AreResolved, Compilation, CompiledFile, IsCompiled, IsShort, IsWritten, file_bytes, file_name, SourceDescribes, compilation, Source, cases_lt, false≢true, All-append, All-contains, All-map, All-nil, All-permutation, Contains-permutation, IsPermutation-sym, length_permutation, count_by-le-length, length-filter, spot, declared_by, full_name, Occurrence, declared_occurrence, occurrences, occurrences_from, occurrences_of, package_occurrence, package_occurrences}
 use Rattle.proto_links.specs.Imports as imports
 use Rattle.proto_names.specs.Index as index_names
 use Rattle.proto_base.specs.Limits.{limit_of}
 use Rattle.proto_base.specs.declared.limits.Limit.TheVariants as limit
-use Rattle.proto_compile.specs.Sound.{IsSound}
+use Rattle.proto_compilation.specs.Sound.{IsCoherent, IsSound}
+use Rattle.proto_links.proofs.Whole.{whole_of}
+use Rattle.proto_names.proofs.Once.{declared_once}
 use Rattle.proto_compile.specs.Sources.{name_of}
-use Rattle.proto_compile.proofs.Rising.{named_once}
 use Rattle.proto_compile.proofs.OneTyping as zipped
 use Rattle.proto_checks.specs.Checks.{FileBreaks}
 use Rattle.proto_desc.specs.declared.file.PackageDescriptor.{PackageDescriptor}
@@ -72,18 +73,16 @@ module _ (limits : Limits) where
 
 -- ---- what the passes give
 
--- what links and the index count, and what set order has
+-- what links and the index count
 pub counts : (limits : Limits) (sources sorted : List Source) (descs : List FileDesc) (links : Linked) (index : Index)
     (files : List CompiledFile) → AreResolved limits sources sorted descs links index
     → map file_name files ≡ map name_of sorted → (count_of links ≡ length files) × (index.files ≡ length files)
-    × ((a : ℕ) → Contains links.set_order a → a < length files)
 counts limits sources sorted descs links index files resolved names =
     let is = resolved.analysed in
     let size = zipped.same_length limits sorted resolved.descs is.described.each in
     let many = zipped.as_many file_name name_of files sorted names in (
       omega (arith, size, many, is.linked.count),
       omega (arith, size, many, is.indexed.files),
-      λ a has. omega (arith, size, many, (is.linked.order.every a).0 has),
     )
 
 -- as many descriptors as sources
@@ -107,20 +106,33 @@ written_of {sorted = sorted} {descs = descs} resolved short same_names names byt
   same_limits = refl;
 }
 
-pub sound : (limits : Limits) (sources : List Source) (files : List CompiledFile) (links : Linked) (index : Index)
+pub coherent : (limits : Limits) (sources : List Source) (files : List CompiledFile) (links : Linked) (index : Index)
     → IsWritten limits sources (compilation limits files links index)
-    → IsPermutation (services_of index.occurrences) index.services
-    → length (set_of files links) ≤ limit_of limits limit.SetBytes → IsSound (compilation limits files links index)
-sound limits sources files links index is services within =
+    → IsCoherent (compilation limits files links index)
+coherent limits sources files links index is =
     let analysed = is.resolved.analysed in
+    let described = analysed.described in
     let indexed = analysed.indexed in
+    let services = indexed.sound.services in
     let counted = counts limits sources is.sorted is.descs links index files is.resolved is.names in
     record {
+      few = omega (
+        arith,
+        length_permutation sources is.sorted described.by_name.all,
+        described.few,
+        zipped.as_many file_name name_of files is.sorted is.names,
+      );
+      rises = rw is.names described.by_name.rises;
       linked = counted.0;
+      reaches = whole_of is.resolved.descs links analysed.linked;
       indexed = counted.1;
-      inside = counted.2;
-      once = named_once is.sorted files analysed.described.by_name.rises is.names;
-      within = within;
+      names = indexed.sound;
+      declared = declared_once index is.resolved.descs limits indexed;
       few_services = grind (arith, length_permutation, length-map, count_by-le-length, length-filter);
-      short_services = index_short limits is.sorted is.resolved.descs index analysed.described.each indexed services;
+      short_services = index_short limits is.sorted is.resolved.descs index described.each indexed services;
     }
+
+pub sound : (limits : Limits) (sources : List Source) (c : Compilation) → IsCompiled limits sources c → IsSound c
+sound limits sources c is =
+    let own : IsCompiled c.limits sources c = subst (λ l. IsCompiled l sources c) (sym is.written.same_limits) is in
+    record { coherent = coherent c.limits sources c.files c.links c.index own.written; within = own.within }

@@ -25,7 +25,8 @@ use Rattle.proto_names.specs.Occurrences.{IsTwice, Occurrence, occurrences}
 use Rattle.proto_types.specs.References.{TypesBreak}
 use Rattle.wire_bytes.specs.Descriptor.{file_desc_bytes}
 use Rattle.proto_compile.specs.Analysed.{AreResolved}
-use Rattle.proto_compile.specs.Compilation.{Compilation, IsWritten, set_of}
+use Rattle.proto_compilation.specs.Compilation.{Compilation, set_of}
+use Rattle.proto_compile.specs.Compiled.{IsWritten}
 use Rattle.proto_compile.specs.Descriptions.{SourceDescribes}
 use Rattle.proto_compile.specs.Sources.{AreByName, name_at, name_of, text_of}
 use Rattle.proto_compile.specs.declared.error.CompileError.{CompileError}

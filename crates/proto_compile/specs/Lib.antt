@@ -1,6 +1,5 @@
-pub mod Alike
 pub mod Analysed
-pub mod Compilation
+pub mod Compiled
 pub mod Descriptions
 pub mod Faults
 pub mod Sources
@@ -8,4 +7,3 @@ pub mod Steps
 pub mod Outcomes
 pub mod Passes
 pub mod FaultSet
-pub mod Sound

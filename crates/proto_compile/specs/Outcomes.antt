@@ -23,7 +23,7 @@ use Rattle.proto_types.specs.Typed.{Means}
 use Rattle.proto_types.specs.declared.meaning.NamedType.{NamedType}
 use Rattle.wire_bytes.specs.Descriptor.{file_desc_bytes}
 use Rattle.proto_compile.specs.Analysed.{TypesAt, TypesBreakAt}
-use Rattle.proto_compile.specs.Compilation.{IsShort}
+use Rattle.proto_compile.specs.Compiled.{IsShort}
 use Rattle.proto_compile.specs.Descriptions.{SourceDescribes}
 use Rattle.proto_compile.specs.FaultSet.{SourceFault, fault as source_fault, start}
 use Rattle.proto_compile.specs.Faults.{Tells}

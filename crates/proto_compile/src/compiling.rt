@@ -3,10 +3,12 @@
 ghost use Rattle.std.specs.Prelude.{◌≡◌, ℕ, List, true, All, IfOk, IfErr, IsErrAnd, MatchResult, OnOk, length, map};
 ghost use Rattle.proto_base.specs.NameOrder.{NamesRise};
 ghost use Rattle.proto_compile.specs.Analysed.{AreResolved};
-ghost use Rattle.proto_compile.specs.Compilation.{Compilation, IsCompiled, IsShort, IsWritten, file_bytes, file_name};
+ghost use Rattle.proto_compilation.specs.Compilation.{Compilation, file_bytes, file_name};
+ghost use Rattle.proto_compile.specs.Compiled.{IsCompiled, IsShort, IsWritten};
 ghost use Rattle.proto_compile.specs.FaultSet.{IsFault, IsLeastFault, IsPlaced, SourceFault, TellsOf};
 ghost use Rattle.proto_compile.specs.Sources.{name_of};
-ghost use Rattle.proto_compile.specs.Steps.{AreWritten, compilation, items_of};
+ghost use Rattle.proto_compilation.specs.Parts.{compilation};
+ghost use Rattle.proto_compile.specs.Steps.{AreWritten, items_of};
 ghost use Rattle.proto_compile.specs.declared.error.CompileError.TheVariants as errors;
 ghost use Rattle.proto_desc.specs.Resolved.{file_resolved};
 ghost use Rattle.proto_links.specs.Linked.{Linked};
@@ -15,16 +17,14 @@ ghost use Rattle.wire_bytes.specs.Descriptor.{file_desc_bytes};
 ghost use Rattle.proto_compile.specs.declared.source.Source.{Source};
 
 use crate::analysing::{Analysis, analyse};
-use crate::compiled::Compiled;
 use crate::error::{CompileError, START, refusal};
 use crate::pass::Pass;
 use crate::pass::lengths::write_all;
 use crate::pass::list::files_by_name;
-use crate::set::set_len;
 use crate::source::Source;
-use crate::table::FileTable;
 use crate::workers::{Leftovers, Workers};
-use proto_base::{Kind, Limit, Limits};
+use proto_base::{Kind, Limits};
+use proto_compilation::{Compiled, FileTable};
 use proto_desc::file::FileDesc;
 use proto_links::Links;
 use proto_names::NameIndex;
@@ -68,16 +68,10 @@ fn compilation_of(
         → IsWritten limits.now sources (compilation limits.now files links index)
         → IfErr result (TellsOf (IsLeastFault limits.now sources)) }
 {
-    let Some(set_len) = set_len(&files, &links, limits.get(Limit::SetBytes)) else {
+    let Some(compiled) = Compiled::new(files, links, index, limits) else {
         return Err(refusal(alloc, Pass::Set, "", START, Kind::SetTooLong));
     };
-    Ok(Compiled {
-        files,
-        links,
-        index,
-        limits: *limits,
-        set_len: set_len as usize,
-    })
+    Ok(compiled)
 }
 
 /// Compiles proto3 sources: each by itself, then their imports, names and types, and the bytes of their descriptors.

@@ -4,23 +4,19 @@
 #![tactic(auto)]
 
 mod analysing;
-mod compiled;
 mod compiling;
 mod error;
 mod laws;
 mod letting_go;
 mod outcome;
 mod pass;
-mod set;
 mod source;
-mod table;
 mod workers;
 
-pub use compiled::Compiled;
 pub use compiling::{compile, compile_by};
 pub use error::CompileError;
-pub use laws::compiling_is_unique;
+pub use laws::{compilations_are_sound, compiling_is_unique};
 pub use pass::LOCAL_PASS;
-pub use set::FILE_FIELD;
+pub use proto_compilation::Compiled;
 pub use source::Source;
 pub use workers::Leftovers;

@@ -1,10 +1,12 @@
 -- What the steps of an answer give, as the response to a body.
-use Rattle.reflect_core.proofs.Common.{◌≡◌, ℕ, zero, suc, ◌<◌, ◌≤◌, List, [], ◌∷◌, ◌++◌, length, map, get_or, ap, arith, refl, All, Bool, filter, inl, inr, not, ◌||◌, Option, Some, None, Contains, Vec, ◌==◌, Global, AllZip, All-head, All-map, All-tail, AllZip-long, carried, carried_from, reached, repeats, root_first, Mode, Compilation, bytes_at, bytes_field, count_of, reach_of, IsAllowed, ReadsBody, Asked, files_bytes, services_bytes, IsAsked, root, HoldsReplies, AreReplyable, AreServicesFor, IsReplyable, IsRootWithin, asked_of, files_of}
+use Rattle.reflect_core.proofs.Common.{◌≡◌, ℕ, zero, suc, ◌<◌, ◌≤◌, List, [], ◌∷◌, ◌++◌, length, map, get_or, ap, arith, refl, All, Bool, filter, inl, inr, not, ◌||◌, Option, Some, None, Contains, Vec, ◌==◌, Global, AllZip, All-head, All-map, All-tail, AllZip-long, carried, carried_from, reached, repeats, root_first, Mode, Compilation, bytes_at, bytes_field, count_of, reach_of, IsAllowed, ReadsBody, Asked, files_bytes, services_bytes, IsAsked, root, AreReplyable, AreServicesFor, IsReplyable, IsRootWithin, asked_of, files_of}
 use Rattle.std.specs.Set.{is_member}
 use Rattle.std.proofs.lemmas.List.{length-map}
 use Rattle.std.proofs.lemmas.Bool.{cases_lt}
 use Rattle.proto_base.specs.Limits.{limit_of}
 use Rattle.proto_base.specs.declared.limits.Limit.TheVariants as limit
+use Rattle.proto_compilation.specs.Sound.{IsSound}
+use Rattle.proto_compilation.proofs.Within.{reached_within}
 use Rattle.reflect_core.specs.declared.asked.Asked as rust
 use Rattle.reflect_core.proofs.Carrying.{carried_short, carried_inside}
 use Rattle.reflect_core.proofs.ReadBounds.{read_bounds}
@@ -21,16 +23,18 @@ good_at c (x ∷ xs) (y ∷ ys) (suc k) a f good below = good_at c xs ys k a f g
 good_at c [] ys k a f good below = absurd (omega arith)
 good_at c (x ∷ xs) [] k a f good below = absurd good
 
-module _ (c : Compilation) (holds : HoldsReplies c) where
+module _ (c : Compilation) (sound : IsSound c) where
   files_good : (kept : ℕ → Bool) (root : Option ℕ) → IsRootWithin (count_of c.links) root
       → ((a : ℕ) → Contains (filter kept (root_first (reach_of c.links) root)) a → a < count_of c.links)
       × (length (files_bytes c (filter kept (root_first (reach_of c.links) root))) ≤ 1073741824)
   files_good kept None within = ((λ a w. absurd (let h = w.1 in omega arith)), omega arith)
   files_good kept (Some r) within =
-      let below = within r refl in let own = holds.whole.itself r below in
+      let below = within r refl in
+      let reaches = sound.coherent.reaches in
+      let own = reaches.itself r below in
       let most = carried_short (λ a. bytes_field 1 (bytes_at c.files a)) kept (reach_of c.links) r own in (
-        (λ a w. holds.whole.within r a below (carried_inside kept (reach_of c.links) r a own w)),
-        omega (arith, most, holds.reached r below, holds.sound.within, c.limits.set_bytes_bound),
+        (λ a w. reaches.within r a below (carried_inside kept (reach_of c.links) r a own w)),
+        omega (arith, most, reached_within c reaches r below, sound.within, c.limits.set_bytes_bound),
       )
 
   good_one : (message : List ℕ) (x : Asked) (kept : ℕ → Bool) → IsAllowed c.limits message → IsAsked c message x
@@ -44,7 +48,7 @@ module _ (c : Compilation) (holds : HoldsReplies c) where
       record {
         listed = λ e. refl;
         inside = files.0;
-        short = reply_short c x _ holds.sound (omega arith) (omega arith) (omega arith) files.1;
+        short = reply_short c x _ sound (omega arith) (omega arith) (omega arith) files.1;
       }
 
   pub all_good : (mode : Mode) (sent : List ℕ) (messages : List (List ℕ)) (xs : List Asked)

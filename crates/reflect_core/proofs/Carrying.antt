@@ -1,7 +1,7 @@
 -- The files of a reply: files of the compilation, and no more bytes than the set.
 use Rattle.reflect_core.proofs.Common.{ℕ, zero, suc, ◌+◌, ◌≤◌, List, ◌∷◌, length, ap, arith, length-append, refl, Bool, not, eqb, eq-eqb, filter, Some, flat_map, Contains, length-flat_map, get_or-le-sum_by, root_first}
 use Rattle.std.proofs.lemmas.List.Filters.{sum_by-filter_both}
-use Rattle.proto_compile.proofs.Within.{some_of}
+use Rattle.proto_compilation.proofs.Within.{some_of}
 use Rattle.proto_links.proofs.Whole.{kept_from, kept_to}
 
 module _ (f : ℕ → List ℕ) where

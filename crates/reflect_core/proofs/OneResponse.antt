@@ -1,43 +1,47 @@
--- Sources give a body one response.
-use Rattle.reflect_core.proofs.Common.{◌≡◌, ◌∙◌, ◌++◌, sym, ℕ, ◌<◌, List, [], ◌∷◌, map, ap, refl, arith, Option, Some, None, length, Contains, flat_map, zip, AllZip, none-some, same_Some, carried, carried_from, reached, root_first, Mode, Compilation, IsCompiled, IsNamed, reach_of, frame, Ask, Answer, Declares, IsAnswer, root_of, Asked, reply, IsAsked, IsResponse, replies, replies_to, root, trailer}
-use Rattle.proto_base.specs.declared.limits.Limits.{Limits}
-use Rattle.proto_compile.specs.Alike.{AreAlike}
-use Rattle.proto_compile.specs.declared.source.Source.{Source}
-use Rattle.proto_compile.proofs.Alike.{alike, described_count}
-use Rattle.proto_compile.proofs.Rising.{named_once}
+-- A body has one response.
+use Rattle.reflect_core.proofs.Common.{◌≡◌, ◌∙◌, ◌++◌, sym, ℕ, ◌<◌, List, [], ◌∷◌, map, ap, refl, arith, Option, Some, None, length, Contains, flat_map, zip, AllZip, none-some, same_Some, carried, carried_from, reached, root_first, Mode, Compilation, reach_of, frame, Ask, Answer, Declares, IsAnswer, root_of, Asked, reply, IsAsked, IsResponse, replies, replies_to, root, trailer}
+use Rattle.proto_compilation.specs.Alike.{AreAlike}
+use Rattle.proto_compilation.specs.Sound.{IsSound}
+use Rattle.proto_compilation.proofs.Within.{named_once}
 use Rattle.proto_names.specs.Occurrences.{Occurrence}
-use Rattle.proto_names.proofs.Once.{declared_once}
 use Rattle.reflect_requests.proofs.FrameRows.{one_reading}
 use Rattle.reflect_requests.proofs.RequestRows.{one_ask, one_host}
 use Rattle.reflect_core.specs.Answer as answers
 
 -- ---- one answer
 
--- what tells two compilations of the same sources from none
-pub record IsOne (c d : Compilation) : Type 0 where
-  pub same : AreAlike c d
-  pub once : (name : List ℕ) (a b : ℕ) → IsNamed c.files name a → IsNamed c.files name b → a ≡ b
-  pub one : (name : List ℕ) (o p : Occurrence) → Declares c name o → Declares c name p → o ≡ p
-  pub inside : (o : Occurrence) → Contains c.index.occurrences o → o.file < length c.files
-
 declares_by : (c d : Compilation) → ((o : Occurrence) → Contains c.index.occurrences o → Contains d.index.occurrences o)
     → (name : List ℕ) (o : Occurrence) → Declares c name o → Declares d name o
 declares_by c d on name o is = record { declared = on o is.declared; named = is.named; element = is.element }
 
-module _ (c d : Compilation) (is : IsOne c d) where
+-- roots are files
+pub root_inside : (c : Compilation) → IsSound c → (ask : Ask) (x : Answer) (r : ℕ) → IsAnswer c ask x
+    → root_of x ≡ Some r → r < length c.files
+root_inside c sound ask x r (answers.named name a n) at = omega (arith, same_Some a r at, n.0)
+root_inside c sound ask x r (answers.declared name o n) at =
+    omega (arith, same_Some _ r at, sound.coherent.names.inside o n.declared, sound.coherent.indexed)
+root_inside c sound ask x r answer at = absurd (none-some r at)
+
+-- the same files and services make the same reply
+reply_alike : (c d : Compilation) → c.files ≡ d.files → c.index.services ≡ d.index.services → (asked : Asked)
+    (carried : List ℕ) → reply c asked carried ≡ reply d asked carried
+reply_alike c d files services asked carried = grind (arith, files, services)
+
+module _ (c d : Compilation) (sound : IsSound c) (same : AreAlike c d) where
   back : (name : List ℕ) (o : Occurrence) → Declares d name o → Declares c name o
-  back = declares_by d c (λ o. (is.same.occurrences o).1)
+  back = declares_by d c (λ o. (same.occurrences o).1)
 
   on : (name : List ℕ) (o : Occurrence) → Declares c name o → Declares d name o
-  on = declares_by c d (λ o. (is.same.occurrences o).0)
+  on = declares_by c d (λ o. (same.occurrences o).0)
 
   one_meaning : (ask : Ask) (x y : Answer) → IsAnswer c ask x → IsAnswer d ask y → x ≡ y
   one_meaning ask x y (answers.named name a n) (answers.named _ b m) =
-      ap answers.file (is.once name a b n (rw is.same.files m))
-  one_meaning ask x y (answers.named name a n) (answers.not_named _ none) = absurd (none a (rw (← is.same.files) n))
-  one_meaning ask x y (answers.not_named name none) (answers.named _ b m) = absurd (none b (rw is.same.files m))
+      ap answers.file (named_once c.files sound.coherent.rises name a b n (rw same.files m))
+  one_meaning ask x y (answers.named name a n) (answers.not_named _ none) = absurd (none a (rw (← same.files) n))
+  one_meaning ask x y (answers.not_named name none) (answers.named _ b m) = absurd (none b (rw same.files m))
   one_meaning ask x y (answers.declared name o n) (answers.declared _ p m) =
-      ap (λ (o : Occurrence). answers.file o.file) (is.one name o p n (back name p m))
+      ap (λ (o : Occurrence). answers.file o.file)
+      (sound.coherent.declared.one o p n.declared (back name p m).declared (n.named ∙ sym m.named) n.element)
   one_meaning ask x y (answers.declared name o n) (answers.not_declared _ none) = absurd (none o (on name o n))
   one_meaning ask x y (answers.not_declared name none) (answers.declared _ p m) = absurd (none p (back name p m))
   one_meaning ask x y (answers.message name o n k) (answers.no_message _ none) = absurd (none o (on name o n) k)
@@ -52,8 +56,8 @@ module _ (c d : Compilation) (is : IsOne c d) where
       let host = one_host message _ _ _ _ first.reads second.reads in
       let ask = one_ask message _ _ _ _ first.reads second.reads in
       let answer = one_meaning second.ask x.answer y.answer (rw ask at first.answered) second.answered in
-      let same = first.same ∙ sym second.same in
-      λ i. record { message = same i; host = host i; answer = answer i }
+      let text = first.same ∙ sym second.same in
+      λ i. record { message = text i; host = host i; answer = answer i }
 
   all_asked : (messages : List (List ℕ)) (xs ys : List Asked) → AllZip (IsAsked c) messages xs
       → AllZip (IsAsked d) messages ys → xs ≡ ys
@@ -64,21 +68,12 @@ module _ (c d : Compilation) (is : IsOne c d) where
 
   -- ---- one list of replies
 
-  reply_alike : (asked : Asked) (files : List ℕ) → reply c asked files ≡ reply d asked files
-  reply_alike asked files = grind (arith, is.same.files, is.same.services)
-
-  -- roots are files
-  pub root_inside : (ask : Ask) (x : Answer) (r : ℕ) → IsAnswer c ask x → root_of x ≡ Some r → r < length c.files
-  root_inside ask x r (answers.named name a n) at = omega (arith, same_Some a r at, n.0)
-  root_inside ask x r (answers.declared name o n) at = omega (arith, same_Some _ r at, is.inside o n.declared)
-  root_inside ask x r answer at = absurd (none-some r at)
-
   -- what is reached from a root, in either order
   reached_alike : (o : Option ℕ) → ((r : ℕ) → o ≡ Some r → r < length c.files)
       → (reached (reach_of c.links) o ≡ reached (reach_of d.links) o)
       × (root_first (reach_of c.links) o ≡ root_first (reach_of d.links) o)
   reached_alike None inside = (refl, refl)
-  reached_alike (Some r) inside = rw (is.same.reach r (inside r refl)) (refl, refl)
+  reached_alike (Some r) inside = rw (same.reach r (inside r refl)) (refl, refl)
 
   carried_alike : (mode : Mode) (sent : List ℕ) (messages : List (List ℕ)) (xs : List Asked)
       → AllZip (IsAsked c) messages xs
@@ -86,36 +81,18 @@ module _ (c d : Compilation) (is : IsOne c d) where
       (reach_of d.links) sent (map root xs)
   carried_alike mode sent [] [] all = refl
   carried_alike mode sent (m ∷ ms) (x ∷ xs) all =
-      let same = reached_alike (root x) (λ r at. root_inside _ x.answer r all.0.answered at) in
+      let one = reached_alike (root x) (λ r at. root_inside c sound _ x.answer r all.0.answered at) in
       let rest = carried_alike mode (sent ++ reached (reach_of c.links) (root x)) ms xs all.1 in
-      rw (rest, same.0, same.1) refl
+      rw (rest, one.0, one.1) refl
   carried_alike mode sent ms xs all = absurd all
 
   pub one_response : (mode : Mode) (body a b : List ℕ) → IsResponse mode c body a → IsResponse mode d body b → a ≡ b
   one_response mode body a b x y =
       let bound = c.limits.message_bytes_bound in
-      let read = one_reading c.limits (omega (arith, bound)) body _ _ _ _ x.read (rw is.same.limits y.read) in
+      let read = one_reading c.limits (omega (arith, bound)) body _ _ _ _ x.read (rw same.limits y.read) in
       let asked = all_asked x.messages _ _ x.requests (rw read.0 y.requests) in
       let lists = carried mode (reach_of d.links) (map root x.asked) in
       let all : replies mode c x.asked ≡ replies mode d y.asked =
       ap (replies_to c x.asked) (carried_alike mode [] x.messages x.asked x.requests)
-      ∙ (λ i. map (λ p. reply_alike p.0 p.1 i) (zip x.asked lists)) ∙ ap (replies mode d) asked in
+      ∙ (λ i. map (λ p. reply_alike c d same.files same.services p.0 p.1 i) (zip x.asked lists)) ∙ ap (replies mode d) asked in
       x.spelled ∙ (λ i. flat_map (frame 0) (all i) ++ frame 128 (trailer (read.1 i))) ∙ sym y.spelled
-
--- ---- of the same sources
-
-pub is_one : (limits : Limits) (sources : List Source) (c d : Compilation) → IsCompiled limits sources c
-    → IsCompiled limits sources d → IsOne c d
-is_one limits sources c d first second =
-    let written = first.written in
-    let analysed = written.resolved.analysed in
-    let indexed = analysed.indexed in
-    let count = described_count limits sources c first in
-    record {
-      same = alike limits sources c d first second;
-      once = named_once written.sorted c.files analysed.described.by_name.rises written.names;
-      one = λ name o p x y. (declared_once c.index written.resolved.descs limits indexed).one o p x.declared y.declared
-          (x.named ∙ sym y.named) x.element;
-      inside = λ o w. let below = indexed.sound.inside o w in let files = indexed.files in
-          omega (arith, below, files, count);
-    }

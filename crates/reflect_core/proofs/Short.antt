@@ -1,6 +1,6 @@
 -- Replies have room in a frame.
 use Rattle.reflect_core.proofs.Common.{ℕ, ◌+◌, ◌<◌, ◌≤◌, List, [], ◌∷◌, length, get_or, ap, arith, length-append, length-flat_map, Contains-get_or, sum_by-le, Compilation, bytes_field, Ask, Answer, IsAnswer, file, no_extensions, services, not_found, empty_request, Asked, contents_of, files_bytes, services_bytes, host_field, reply}
-use Rattle.proto_compile.specs.Sound.{IsSound}
+use Rattle.proto_compilation.specs.Sound.{IsSound}
 use Rattle.wire_format.proofs.Varints.{varint_short}
 use Rattle.reflect_core.proofs.Constants.{not_found_is, empty_request_is}
 use Rattle.reflect_core.proofs.ReadBounds.{ask_size}
@@ -14,9 +14,9 @@ services_short c sound =
     let service : List ℕ → List ℕ = λ name. bytes_field 1 (bytes_field 1 name) in
     let list = sum_by-le (λ name. length (service name)) 1063 c.index.services (λ k d h.
     let name = get_or c.index.services k d in
-    let own = sound.short_services name (Contains-get_or c.index.services k d h) in
+    let own = sound.coherent.short_services name (Contains-get_or c.index.services k d h) in
     omega (arith, own, field_short 1 name, field_short 1 (bytes_field 1 name), c.limits.full_name_bytes_bound)) in
-    omega (arith, list, length-flat_map service c.index.services, sound.few_services, c.limits.names_bound)
+    omega (arith, list, length-flat_map service c.index.services, sound.coherent.few_services, c.limits.names_bound)
 
 -- how long the name is that an answer holds
 abbrev pub answer_size : Answer → ℕ

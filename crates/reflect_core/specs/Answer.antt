@@ -1,6 +1,6 @@
 -- What answers a request of a reflection stream, by `reflection.proto` of `grpc.reflection.v1`.
 use Rattle.std.specs.Prelude.{◌≡◌, ℕ, List, Option, Some, None, Contains}
-use Rattle.proto_compile.specs.Compilation.{Compilation, IsNamed}
+use Rattle.proto_compilation.specs.Compilation.{Compilation, IsNamed}
 use Rattle.proto_desc.specs.declared.name_kind.NameKind.TheVariants as kind
 use Rattle.proto_names.specs.Occurrences.{Occurrence, IsPackage}
 use Rattle.reflect_requests.specs.Request.{Ask, file_by_name, file_by_symbol, file_by_extension, extension_numbers, list_services, nothing}

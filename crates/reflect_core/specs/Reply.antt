@@ -1,6 +1,6 @@
 -- The bytes of a reply, by `ServerReflectionResponse` of `grpc.reflection.v1`, `reflection.proto`.
 use Rattle.std.specs.Prelude.{ℕ, List, [], ◌∷◌, ◌++◌, flat_map, codes}
-use Rattle.proto_compile.specs.Compilation.{Compilation, bytes_at}
+use Rattle.proto_compilation.specs.Compilation.{Compilation, bytes_at}
 use Rattle.reflect_core.specs.Answer.{Answer, file, no_extensions, services, not_found, empty_request}
 use Rattle.wire_format.specs.Field.{number_field, bytes_field}
 

@@ -4,7 +4,7 @@ use Rattle.std.specs.Prelude.{◌≡◌, ℕ, List, [], ◌∷◌, ◌++◌, map
 use Rattle.std.specs.List.{AllZip, zip}
 use Rattle.first_reach.specs.Carried.{carried}
 use Rattle.first_reach.specs.declared.mode.Mode.{Mode}
-use Rattle.proto_compile.specs.Compilation.{Compilation}
+use Rattle.proto_compilation.specs.Compilation.{Compilation}
 use Rattle.proto_links.specs.Linked.{reach_of}
 use Rattle.reflect_core.specs.Answer.{IsAnswer, root_of}
 use Rattle.reflect_core.specs.Reply.{Asked, reply}

@@ -1,15 +1,13 @@
 -- Words for the contracts of the private functions that answer a body. They are no part of its definition.
-use Rattle.std.specs.Prelude.{◌≡◌, ℕ, ◌+◌, ◌*◌, ◌<◌, ◌≤◌, ◌^◌, List, length, slice_index_or, Option, Contains, Vec}
+use Rattle.std.specs.Prelude.{◌≡◌, ℕ, ◌+◌, ◌*◌, ◌<◌, ◌^◌, List, length, slice_index_or, Option, Contains, Vec}
 use Rattle.std.specs.Option.{ForSome}
 use Rattle.std.specs.declared.alloc.Global.{Global}
-use Rattle.proto_compile.specs.Compilation.{Compilation, set_of}
-use Rattle.proto_compile.specs.Sound.{IsSound}
-use Rattle.proto_links.specs.Linked.{count_of, reach_of}
-use Rattle.proto_links.specs.Whole.{AreReachesWhole}
+use Rattle.proto_compilation.specs.Compilation.{Compilation}
+use Rattle.proto_links.specs.Linked.{count_of}
 use Rattle.reflect_core.specs.Answer as answers
 use Rattle.reflect_core.specs.Answer.{Answer}
 use Rattle.reflect_core.specs.ProgramAnswers.{answer_of}
-use Rattle.reflect_core.specs.Reply.{Asked, contents_of, files_bytes, host_field, member_of, reply, services_bytes}
+use Rattle.reflect_core.specs.Reply.{Asked, contents_of, host_field, member_of, reply, services_bytes}
 use Rattle.reflect_core.specs.declared.asked.Asked as rust
 use Rattle.wire_format.specs.Field.{bytes_field}
 use Rattle.wire_format.specs.Varint.{varint_bytes}
@@ -66,10 +64,3 @@ AreServicesFor c asked bytes = (k : ℕ) (a : rust.Asked) → k < length asked
 
 abbrev pub files_of : Vec ℕ Global → List ℕ
 files_of files = files.items
-
--- what is so of every compilation, by which its replies have room in frames
-pub record HoldsReplies (c : Compilation) : Type 0 where
-  pub sound : IsSound c
-  pub whole : AreReachesWhole c.links
-  pub reached : (a : ℕ) → a < count_of c.links
-      → length (files_bytes c (reach_of c.links a)) ≤ length (set_of c.files c.links)

@@ -9,7 +9,7 @@ ghost use Rattle.reflect_core.specs.ProgramAnswers.{answer_of};
 ghost use Rattle.reflect_requests.specs.Request.{extension_numbers, file_by_name, file_by_symbol};
 ghost use Rattle.reflect_requests.specs.ProgramFrames.{ask_of};
 
-use proto_compile::Compiled;
+use proto_compilation::Compiled;
 use proto_desc::name_kind::NameKind;
 use proto_links::FileId;
 use reflect_requests::Ask;

@@ -9,7 +9,7 @@ ghost use Rattle.reflect_core.specs.ResponseSteps.{IsRootWithin, asked_of};
 ghost use Rattle.reflect_requests.specs.ProgramFrames.{Reads, bytes_of};
 
 use crate::answer::{Answer, answer_to};
-use proto_compile::Compiled;
+use proto_compilation::Compiled;
 use proto_links::FileId;
 use reflect_requests::Message;
 use std::alloc::{AllocError, Global};

@@ -2,27 +2,17 @@
 
 ghost use Rattle.std.specs.Prelude.{IfOk};
 ghost use Rattle.reflect_core.specs.Response.{IsResponse};
-ghost use Rattle.reflect_core.specs.ResponseSteps.{HoldsReplies};
 
 use crate::asked::{asked_in, roots_of};
 use crate::file_reach::FileReach;
 use crate::reply::Material;
 use crate::response::{response_to, services_for};
 use first_reach::{Mode, carried};
-use proto_compile::Compiled;
+use proto_compilation::Compiled;
 use reflect_requests::read_stream;
 use share_work::{Gate, Plan};
 use std::alloc::{AllocError, AllocGlobal};
 use std::thread::Threads;
-
-/// A law: what is known of every compilation, so that a reply of it has room in a frame.
-fn holds_replies(compiled: &Compiled)
-    ensures { HoldsReplies compiled.now }
-{
-    compiled.is_sound();
-    compiled.files_are_within_the_set();
-    compiled.links().reaches_are_whole();
-}
 
 /// The response to a request body of a reflection stream (`reflection.proto`; PROTOCOL-WEB.md): the replies to its requests in
 /// frames, in their order, and a frame with the trailers.
@@ -50,7 +40,7 @@ where
     let reach = FileReach::new(compiled);
     let carried = carried(rt, &reach, plan, gate, mode, &roots)?;
     let services = services_for(alloc, compiled, &asked)?;
-    holds_replies(compiled);
+    compiled.is_sound();
     let material = Material {
         compiled,
         services: services.as_slice(),

@@ -4,7 +4,7 @@ ghost use Rattle.std.specs.Prelude.{◌≡◌, ℕ, ◌<◌, length};
 ghost use Rattle.proto_links.specs.Linked.{count_of, reach_of};
 ghost use Rattle.proto_links.specs.Whole.{AreReachesWhole};
 
-use proto_compile::Compiled;
+use proto_compilation::Compiled;
 use proto_links::Links;
 use share_work::Reach;
 
@@ -24,7 +24,7 @@ impl<'c> FileReach<'c> {
     {
         let links = compiled.links();
         links.reaches_are_whole();
-        compiled.is_of_sources();
+        compiled.is_sound();
         FileReach { links }
     }
 }

@@ -10,7 +10,7 @@ ghost use Rattle.wire_format.specs.Field.{bytes_field};
 
 use crate::answer::Answer;
 use crate::asked::Asked;
-use proto_compile::Compiled;
+use proto_compilation::Compiled;
 use proto_links::FileId;
 use std::alloc::AllocError;
 use wire_format::{FieldValue, field_len, put_field, put_varint, varint_len};

@@ -9,7 +9,7 @@ ghost use Rattle.reflect_requests.specs.Frames.{frame};
 use crate::answer::Answer;
 use crate::asked::Asked;
 use crate::reply::{Material, reply_len};
-use proto_compile::Compiled;
+use proto_compilation::Compiled;
 use proto_links::FileId;
 use std::alloc::{AllocError, Global};
 use wire_format::{FieldValue, field_len, put_field, put_varint};

@@ -1,9 +1,9 @@
 -- From what was read, judged and written to what a run of `check` did.
 use Rattle.std.proofs.Common.{◌≡◌, ◌⊎◌, ℕ, List, Result, Ok, Err, IsErrAnd, inl, inr, refl, subst, sym}
-use Rattle.grpcweb_core.specs.Runs.{IsWriteRun}
-use Rattle.grpcweb_core.specs.Streams.{Writes}
-use Rattle.grpcweb_core.specs.declared.stream.IoFault.{IoFault}
-use Rattle.grpcweb_core.specs.declared.stream.IoFault.TheVariants as io
+use Rattle.counted_io.specs.Runs.{IsWriteRun}
+use Rattle.counted_io.specs.Streams.{Writes}
+use Rattle.counted_io.specs.declared.stream.IoFault.{IoFault}
+use Rattle.counted_io.specs.declared.stream.IoFault.TheVariants as io
 use Rattle.proto_base.specs.declared.limits.Limits.{Limits}
 use Rattle.schema_check.specs.Runs.{IsCheckRun, IsFound}
 use Rattle.schema_failure.specs.Faults.{of_exchange, of_folder}

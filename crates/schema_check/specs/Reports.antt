@@ -13,7 +13,7 @@ use Rattle.proto_base.specs.declared.limits.Limits.{Limits}
 use Rattle.proto_compile.specs.Sources.{text_of}
 use Rattle.proto_compile.specs.declared.source.Source.{Source}
 use Rattle.schema_failure.specs.Lines.{shown_name}
-use Rattle.schema_failure.specs.Placed.{source_named}
+use Rattle.schema_compile.specs.Placed.{source_named}
 use Rattle.schema_sources.specs.Places.{folder_in}
 use Rattle.schema_sources.specs.declared.places.Places.{Places}
 

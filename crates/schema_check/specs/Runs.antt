@@ -1,7 +1,7 @@
 -- What a run of `check` found and wrote, by how it ended.
 use Rattle.std.specs.Prelude.{◌≡◌, ◌⊎◌, ℕ, List, [], ◌∷◌, IsErrAnd, Result, Ok, Err}
-use Rattle.grpcweb_core.specs.Exchange.{IsWritten, IsWrittenInPart}
-use Rattle.grpcweb_core.specs.Streams.{Writes}
+use Rattle.counted_io.specs.Runs.{IsWritten, IsWrittenInPart}
+use Rattle.counted_io.specs.Streams.{Writes}
 use Rattle.proto_base.specs.declared.fault.Fault.{Fault}
 use Rattle.proto_base.specs.declared.limits.Limits.{Limits}
 use Rattle.proto_compile.specs.declared.source.Source.{Source}
@@ -12,7 +12,8 @@ use Rattle.schema_failure.specs.declared.failure.Failure.TheVariants as failure
 use Rattle.schema_failure.specs.declared.failure.Verdict.{Verdict}
 use Rattle.schema_failure.specs.declared.failure.Verdict.TheVariants as verdict
 use Rattle.schema_sources.specs.declared.places.Places.{Places}
-use Rattle.schema_sources.specs.Texts.{AreSourcesOf, AreStandard, AreTextsOf, KnownSources}
+use Rattle.schema_compile.specs.Sources.{AreSourcesOf}
+use Rattle.schema_sources.specs.Texts.{AreStandard, AreTextsOf, KnownSources}
 use Rattle.source_folder.specs.declared.folder.NamedText.{NamedText}
 
 abbrev pub verdict_of : List Fault → Verdict

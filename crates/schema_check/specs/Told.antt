@@ -3,7 +3,8 @@ use Rattle.std.specs.Prelude.{◌≡◌, ◌≢◌, ◌⊎◌, ◌-◌, ◌^◌,
 use Rattle.file_faults.specs.OwnFaults.{AreFileFaults}
 use Rattle.proto_base.specs.declared.fault.Fault.{Fault}
 use Rattle.proto_base.specs.declared.limits.Limits.{Limits}
-use Rattle.proto_compile.specs.Compilation.{Compilation, IsCompiled}
+use Rattle.proto_compilation.specs.Compilation.{Compilation}
+use Rattle.proto_compile.specs.Compiled.{IsCompiled}
 use Rattle.proto_compile.specs.FaultSet.{IsLeastFault, IsPlaced, told_by}
 use Rattle.proto_compile.specs.Sources.{name_of, text_of}
 use Rattle.proto_compile.specs.declared.source.Source.{Source}

@@ -6,13 +6,14 @@ ghost use Rattle.schema_check.specs.Added.{AddsBlock, AddsSome};
 ghost use Rattle.schema_check.specs.Reports.{IsHeadOf, IsPlaceOf, list_text, place_text, slash_behind};
 ghost use Rattle.schema_check.specs.Told.{LiesWithin};
 ghost use Rattle.schema_failure.specs.Lines.{shown_name};
-ghost use Rattle.schema_failure.specs.Placed.{source_named};
+ghost use Rattle.schema_compile.specs.Placed.{source_named};
 
 use fault_report::{Excerpt, excerpt_at};
 use proto_base::{Fault, Kind, Limits};
 use proto_compile::Source;
+use schema_compile::source_named;
 use schema_explanation::Topic;
-use schema_failure::{Shown, source_named};
+use schema_failure::Shown;
 use schema_sources::Places;
 use std::alloc::{AllocError, Global};
 use std::fmt::Write;

@@ -5,11 +5,12 @@ ghost use Rattle.schema_check.specs.Runs.{AreFindings, IsCheckRun, IsFolderCheck
 
 use crate::report::report_of;
 use crate::told::told_faults;
-use grpcweb_core::{CountedWrite, write_bytes};
+use counted_io::{CountedWrite, write_bytes};
 use proto_base::{Fault, Limits};
 use proto_compile::Source;
+use schema_compile::sources_of;
 use schema_failure::{Failure, Verdict};
-use schema_sources::{Places, SourceFolder, read_sources, sources_of};
+use schema_sources::{Places, SourceFolder, read_sources};
 use share_work::Plan;
 use source_folder::NamedText;
 use std::alloc::{AllocError, AllocGlobal};

@@ -5,7 +5,7 @@ use Rattle.std.proofs.KnownBytes.{Appends-trans}
 use Rattle.std.proofs.lemmas.List.{take-append-le, take_more}
 use Rattle.std.proofs.lemmas.List.Elements.{Contains-get_or}
 use Rattle.std.proofs.Math.Seq.{take-append-add}
-use Rattle.grpcweb_core.specs.Streams.{Writes}
+use Rattle.counted_io.specs.Streams.{Writes}
 use Rattle.schema_commands.specs.Gathered.{IsGathered, IsTaken}
 use Rattle.schema_commands.specs.Runs.{IsOutput}
 use Rattle.schema_failure.specs.declared.failure.Failure.{Failure}

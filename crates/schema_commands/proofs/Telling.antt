@@ -1,26 +1,16 @@
 -- From what was read, described and written to what a run did.
-use Rattle.std.proofs.Common.{◌≡◌, ap, ℕ, List, [], ◌∷◌, Result, Ok, Err, IsErrAnd, refl}
-use Rattle.std.proofs.Common.{inl, inr}
-use Rattle.grpcweb_core.specs.Runs.{IsWriteRun}
-use Rattle.grpcweb_core.specs.Streams.{Reads, Writes}
-use Rattle.grpcweb_core.specs.declared.stream.IoFault.{IoFault}
-use Rattle.grpcweb_core.specs.declared.stream.IoFault.TheVariants as io
+use Rattle.std.proofs.Common.{ℕ, List, [], ◌∷◌, Err, refl}
+use Rattle.counted_io.specs.Runs.{IsWriteRun}
+use Rattle.counted_io.specs.Streams.{Reads, Writes}
+use Rattle.counted_io.specs.declared.stream.IoFault.{IoFault}
+use Rattle.counted_io.specs.declared.stream.IoFault.TheVariants as io
 use Rattle.proto_base.specs.declared.limits.Limits.{Limits}
 use Rattle.proto_compile.specs.declared.source.Source.{Source}
-use Rattle.schema_commands.specs.Runs.{IsDescribeRun, IsInput, IsLineOf, IsToldOf, IsToldOfFolder}
-use Rattle.schema_sources.specs.Texts.{KnownSources}
-use Rattle.schema_failure.specs.Faults.{of_exchange, of_folder}
+use Rattle.schema_commands.specs.Runs.{IsDescribeRun, IsInput, IsLineOf}
+use Rattle.schema_compile.specs.Told.{IsToldOf}
+use Rattle.schema_failure.specs.Faults.{of_exchange}
 use Rattle.schema_failure.specs.declared.failure.Failure.{Failure}
 use Rattle.schema_failure.specs.declared.failure.Failure.TheVariants as failure
-use Rattle.source_folder.specs.declared.fault.FolderFault.{FolderFault}
-use Rattle.source_folder.specs.declared.fault.FolderFault.TheVariants as faults
-
--- what a `?` hands on
-pub handed_on : {A : Type 0} (r : Result A Failure) (f : Failure) → IsErrAnd r (λ e. e ≡ f) → r ≡ Err f
-handed_on (Ok a) f handed = absurd handed
-handed_on (Err e) f handed = ap (λ x. Err x) handed
-
--- ---- describing
 
 pub refused : (name : List ℕ) (reads reads' : Reads) (writes : Writes) (limits : Limits) (source : Source)
     (f : Failure) → IsInput name reads reads' limits source → IsToldOf limits (source ∷ []) f
@@ -37,11 +27,3 @@ pub unwritten : (name : List ℕ) (reads reads' : Reads) (writes writes' : Write
 unwritten name reads reads' writes writes' limits source line (io.WriteFault written) input is run =
     (limits, source, input, line, is, written, run)
 unwritten name reads reads' writes writes' limits source line fault input is run = absurd run
-
--- ---- of a folder
-
-pub unread_folder : (limits : Limits) (known : KnownSources) (fault : FolderFault)
-    → IsToldOfFolder limits known (of_folder fault)
-unread_folder limits known faults.Listing = inl refl
-unread_folder limits known faults.Reading = inl refl
-unread_folder limits known faults.NoMemory = inr (inl refl)

@@ -1,7 +1,7 @@
 -- Words of private contracts: bytes that are put together before they are written.
 use Rattle.std.specs.Prelude.{◌≡◌, ℕ, List, ◌++◌, Result, Ok, Err}
 use Rattle.std.specs.Io.KnownBytes.{Appends}
-use Rattle.grpcweb_core.specs.Streams.{Writes}
+use Rattle.counted_io.specs.Streams.{Writes}
 use Rattle.schema_commands.specs.Runs.{IsOutput}
 use Rattle.schema_failure.specs.declared.failure.Failure.{Failure}
 

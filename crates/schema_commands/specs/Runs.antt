@@ -1,37 +1,27 @@
 -- What a run of a command read and wrote, by how it ended.
 use Rattle.std.specs.Prelude.{◌≡◌, ℕ, suc, ◌+◌, List, [], ◌∷◌, ◌++◌, ◌⊎◌, Option, Some, None, Result, Ok, Err, IsErrAnd}
 use Rattle.first_reach.specs.declared.mode.Mode.{Mode}
-use Rattle.grpcweb_core.specs.Exchange.{IsExchange, IsRead, IsWritten, IsWrittenInPart}
-use Rattle.grpcweb_core.specs.Streams.{Reads, Writes}
-use Rattle.grpcweb_core.specs.declared.stream.IoFault.{IoFault}
+use Rattle.counted_io.specs.Runs.{IsRead, IsWritten, IsWrittenInPart}
+use Rattle.grpcweb_core.specs.Exchange.{IsExchange}
+use Rattle.counted_io.specs.Streams.{Reads, Writes}
+use Rattle.counted_io.specs.declared.stream.IoFault.{IoFault}
 use Rattle.hex.specs.Hex.{encode_lower}
 use Rattle.proto_base.specs.Limits.{limit_of}
-use Rattle.proto_base.specs.declared.fault.Fault.{Fault}
 use Rattle.proto_base.specs.declared.limits.Limit.TheVariants.{FileBytes}
 use Rattle.proto_base.specs.declared.limits.Limits.{Limits}
-use Rattle.proto_compile.specs.Compilation.{Compilation, IsCompiled}
-use Rattle.proto_compile.specs.FaultSet.{IsLeastFault, told_by}
+use Rattle.proto_compilation.specs.Compilation.{Compilation}
 use Rattle.proto_compile.specs.Sources.{name_of, text_of}
 use Rattle.proto_compile.specs.declared.source.Source.{Source}
+use Rattle.schema_compile.specs.Compiled.{IsCompiledTo}
+use Rattle.schema_compile.specs.Told.{IsToldOf, IsToldOfFolder}
 use Rattle.schema_failure.specs.Faults.{of_exchange}
-use Rattle.schema_failure.specs.Placed.{located}
 use Rattle.schema_failure.specs.declared.failure.Failure.{Failure}
 use Rattle.schema_failure.specs.declared.failure.Failure.TheVariants as failure
 use Rattle.schema_headline.specs.Describe.{IsDescribedBy}
 use Rattle.schema_headline.specs.Headline.{IsSetOf}
-use Rattle.schema_sources.specs.Texts.{AreSourcesOf, AreStandard, AreTextsOf, KnownSources}
+use Rattle.schema_compile.specs.Sources.{AreSourcesOf}
+use Rattle.schema_sources.specs.Texts.{AreStandard, AreTextsOf, KnownSources}
 use Rattle.source_folder.specs.declared.folder.NamedText.{NamedText}
-
--- this fault is the first of the sources
-abbrev pub IsFirstOf : Limits → List Source → Fault → Type 0
-IsFirstOf limits sources fault = IsLeastFault limits sources (told_by fault)
-
--- the failure is the line and the column of the sources' first fault, or for want of memory
-abbrev pub IsToldOf : Limits → List Source → Failure → Type 0
-IsToldOf limits sources (failure.Source file line column kind) =
-    (fault : Fault) × (failure.Source file line column kind ≡ located sources fault) × IsFirstOf limits sources fault
-IsToldOf limits sources failure.NoMemory = Unit {0}
-IsToldOf limits sources other = ⊥
 
 -- the hexadecimal digits of the source's descriptor
 abbrev pub IsDigitsOf : Limits → Source → List ℕ → Type 0
@@ -66,22 +56,6 @@ IsDescribeRun name reads reads' writes writes' (Err other) = ⊥
 
 abbrev pub IsSetOfTexts : Limits → List NamedText → List ℕ → Type 0
 IsSetOfTexts limits texts set = (sources : List Source) × AreSourcesOf texts sources × IsSetOf limits sources set
-
-abbrev pub IsToldOfTexts : Limits → List NamedText → Failure → Type 0
-IsToldOfTexts limits texts f =
-    (f ≡ failure.NoMemory) ⊎ ((sources : List Source) × AreSourcesOf texts sources × IsToldOf limits sources f)
-
--- sources of these texts are compiled to this
-abbrev pub AreCompiledTo : Limits → List NamedText → Compilation → Type 0
-AreCompiledTo limits texts c = (sources : List Source) × AreSourcesOf texts sources × IsCompiled limits sources c
-
-abbrev pub IsCompiledTo : Limits → KnownSources → Compilation → Type 0
-IsCompiledTo limits known c = (texts : List NamedText) × AreTextsOf known texts × AreCompiledTo limits texts c
-
--- the failure is that the folder could not be read, want of memory, or the first fault of the folder's texts
-abbrev pub IsToldOfFolder : Limits → KnownSources → Failure → Type 0
-IsToldOfFolder limits known f = (f ≡ failure.Folder) ⊎ ((f ≡ failure.NoMemory)
-    ⊎ ((texts : List NamedText) × AreTextsOf known texts × IsToldOfTexts limits texts f))
 
 -- all of these bytes were written; or the first so many, and then a call failed
 abbrev pub IsOutput : {B : Type 0} → Writes → Writes → List ℕ → Result B Failure → Type 0

@@ -1,39 +1,28 @@
 //! The commands but `serve` and `check`: what each reads, and what it writes.
 
 ghost use Rattle.std.specs.Prelude.{◌-◌, ◌<◌, ◌^◌, [], ◌∷◌, IfErr, IfOk, string_bytes};
-ghost use Rattle.proto_compile.specs.Compilation.{set_of};
-ghost use Rattle.proto_compile.specs.FaultSet.{IsLeastFault, TellsOf};
-ghost use Rattle.schema_commands.specs.Runs.{AreCompiledTo, IsAnswerRun, IsCompileRun, IsCompiledTo, IsDescribeRun, IsExplainRun, IsLineOf, IsSetRun, IsToldOf, IsToldOfFolder, IsToldOfTexts};
+ghost use Rattle.proto_compilation.specs.Compilation.{set_of};
+ghost use Rattle.schema_commands.specs.Runs.{IsAnswerRun, IsCompileRun, IsDescribeRun, IsExplainRun, IsLineOf, IsSetRun};
+ghost use Rattle.schema_compile.specs.Told.{IsToldOf};
 
 use crate::set_writing::{Chunk, SetWriter};
 use crate::whole_file::write_whole;
-use grpcweb_core::{CountedRead, CountedWrite, Mode, answer_io, read_bytes, write_bytes};
+use counted_io::{CountedRead, CountedWrite, read_bytes, write_bytes};
+use grpcweb_core::{Mode, answer_io};
 use proto_base::{Limit, Limits};
-use proto_compile::{CompileError, Compiled, Leftovers, Source, compile_by};
+use proto_compile::{Leftovers, Source};
+use schema_compile::{compile_folder, compile_texts, told};
 use schema_explanation::{Topic, topics};
-use schema_failure::{Failure, locate};
+use schema_failure::Failure;
 use schema_headline::describe;
-use schema_sources::{SourceFolder, read_sources, sources_of};
+use schema_sources::{SourceFolder, read_sources};
 use share_work::{NoGate, Plan};
-use source_folder::NamedText;
 use std::alloc::{AllocError, AllocGlobal, Global};
 use std::fmt::Write;
 use std::mem::forget;
 use std::random::RandomSource;
 use std::rt::Files;
 use std::thread::Threads;
-
-/// Why sources are not compiled: their first fault, with its line and its column, or want of memory.
-fn told(error: CompileError, sources: &[Source]) -> Failure
-    requires { (limits : Limits) × TellsOf (IsLeastFault limits sources.now) error }
-    ensures { (limits : Limits) → TellsOf (IsLeastFault limits sources.now) error
-        → IsToldOf limits sources.now result }
-{
-    match error {
-        CompileError::NoMemory => Failure::NoMemory,
-        CompileError::First(fault) => locate(fault, sources),
-    }
-}
 
 /// The descriptor of a source in hexadecimal digits, and a line feed.
 fn line_of_source<R>(rt: &R, name: &str, text: &[u8], limits: &Limits) -> Result<String, Failure>
@@ -76,28 +65,6 @@ where
     let line = line_of_source(rt, name, &text, &limits)?;
     write_bytes(writer, line.as_bytes())?;
     Ok(())
-}
-
-/// What read texts are compiled to, or their first fault.
-fn compile_texts<R>(
-    rt: &R,
-    texts: &[NamedText],
-    limits: &Limits,
-    plan: Plan,
-    leftovers: Leftovers,
-) -> Result<Compiled, Failure>
-where
-    R: Threads + AllocGlobal + Sync,
-    ensures compiled { IfOk result (AreCompiledTo limits.now texts.now) }
-    ensures refused { IfErr result (IsToldOfTexts limits.now texts.now) }
-{
-    let sources = sources_of(rt.alloc(), texts)?;
-    let listed = sources.as_slice();
-    let plan = plan.evened(listed.len());
-    match compile_by(rt, listed, limits, plan, &NoGate, leftovers) {
-        Ok(compiled) => Ok(compiled),
-        Err(error) => Err(told(error, listed)),
-    }
 }
 
 /// Writes a set to a file or, without one, to the writer.
@@ -147,23 +114,6 @@ where
     forget(compiled);
     forget(texts);
     written
-}
-
-/// What the sources of a folder are compiled to.
-pub fn compile_folder<R, F>(
-    rt: &R,
-    folder: &F,
-    limits: &Limits,
-    plan: Plan,
-) -> Result<Compiled, Failure>
-where
-    R: Threads + AllocGlobal + Sync,
-    F: SourceFolder + Sync,
-    ensures compiled { IfOk result (IsCompiledTo limits.now (F.sources folder.now)) }
-    ensures refused { IfErr result (IsToldOfFolder limits.now (F.sources folder.now)) }
-{
-    let texts = read_sources(rt, folder, limits, plan)?;
-    compile_texts(rt, &texts, limits, plan, Leftovers::LetGo)
 }
 
 /// Answers the request body that a reader gives over the sources of a folder.

@@ -5,4 +5,4 @@ mod commands;
 mod set_writing;
 mod whole_file;
 
-pub use commands::{compile_folder, run_answer, run_compile, run_describe, run_explain};
+pub use commands::{run_answer, run_compile, run_describe, run_explain};

@@ -2,14 +2,14 @@
 //! to a file of `--output` each head and each descriptor by itself.
 
 ghost use Rattle.std.specs.Prelude.{◌≡◌, ◌+◌, ◌-◌, ◌<◌, ◌≤◌, ◌^◌, ◌++◌, [], IfOk, OnOk, length, vec_capacity};
-ghost use Rattle.proto_compile.specs.Compilation.{set_of};
+ghost use Rattle.proto_compilation.specs.Compilation.{set_of};
 ghost use Rattle.schema_commands.specs.Gathered.{IsGathered};
 ghost use Rattle.schema_commands.specs.Runs.{IsOutput};
 ghost use Rattle.wire_format.specs.Field.{bytes_field};
 ghost use Rattle.wire_format.specs.Varint.{varint_bytes};
 
-use grpcweb_core::{CountedWrite, write_bytes};
-use proto_compile::{Compiled, FILE_FIELD};
+use counted_io::{CountedWrite, write_bytes};
+use proto_compilation::{Compiled, FILE_FIELD};
 use schema_failure::Failure;
 use std::alloc::{AllocError, Global};
 use std::io::{self, Write};

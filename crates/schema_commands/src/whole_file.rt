@@ -2,11 +2,11 @@
 //! it, which then takes its place.
 
 ghost use Rattle.std.specs.Prelude.{◌-◌, ◌<◌, ◌^◌, Some};
-ghost use Rattle.proto_compile.specs.Compilation.{set_of};
+ghost use Rattle.proto_compilation.specs.Compilation.{set_of};
 ghost use Rattle.schema_commands.specs.Runs.{IsSetRun};
 
 use crate::set_writing::SetWriter;
-use grpcweb_core::CountedWrite;
+use counted_io::CountedWrite;
 use schema_failure::Failure;
 use std::alloc::AllocGlobal;
 use std::fs::{self, File, FileType, Metadata, OpenFile};

@@ -1,8 +1,6 @@
 -- What a run ends with where a device failed or memory was short.
-use Rattle.device_error.specs.declared.serve_fault.ServeFault.{ServeFault}
-use Rattle.device_error.specs.declared.serve_fault.ServeFault.TheVariants as serve_fault
-use Rattle.grpcweb_core.specs.declared.stream.IoFault.{IoFault}
-use Rattle.grpcweb_core.specs.declared.stream.IoFault.TheVariants as io_fault
+use Rattle.counted_io.specs.declared.stream.IoFault.{IoFault}
+use Rattle.counted_io.specs.declared.stream.IoFault.TheVariants as io_fault
 use Rattle.schema_failure.specs.declared.failure.Failure.{Failure}
 use Rattle.schema_failure.specs.declared.failure.Failure.TheVariants as failure
 use Rattle.source_folder.specs.declared.fault.FolderFault.{FolderFault}
@@ -19,8 +17,3 @@ abbrev pub of_exchange : IoFault → Failure
 of_exchange io_fault.ReadFault = failure.Input
 of_exchange (io_fault.WriteFault written) = failure.Output
 of_exchange io_fault.NoMemory = failure.NoMemory
-
--- of a service
-abbrev pub of_service : ServeFault → Failure
-of_service serve_fault.AcceptFault = failure.Accept
-of_service serve_fault.NoMemory = failure.NoMemory

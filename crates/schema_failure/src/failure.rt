@@ -1,21 +1,16 @@
 //! A failure, and what a run ends with.
 
-ghost use Rattle.std.specs.Prelude.{◌≡◌, ◌<◌, ◌≤◌, ◌-◌, ◌^◌, ◌++◌, [], ◌∷◌, Contains, IfSome, OnOk, Some, length, option_map, string_bytes};
+ghost use Rattle.std.specs.Prelude.{◌≡◌, ◌≤◌, ◌++◌, [], ◌∷◌, OnOk, Some};
 ghost use Rattle.std.specs.Io.KnownBytes.{Appends};
-ghost use Rattle.device_error.specs.Memory.{IsUnlessNoMemory};
-ghost use Rattle.proto_compile.specs.Sources.{name_of, text_of};
-ghost use Rattle.proto_compile.specs.declared.source.Source.{Source};
+ghost use Rattle.counted_io.specs.Memory.{IsUnlessNoMemory};
 ghost use Rattle.schema_failure.specs.declared.failure.Failure.TheVariants as failures;
-ghost use Rattle.schema_failure.specs.Faults.{of_exchange, of_folder, of_service};
+ghost use Rattle.schema_failure.specs.Faults.{of_exchange, of_folder};
 ghost use Rattle.schema_failure.specs.Lines.{line_of};
-ghost use Rattle.schema_failure.specs.Placed.{located, source_named};
 ghost use Rattle.schema_failure.specs.Statuses.{code_of, status_after, status_of};
 
 use crate::shown::Shown;
-use device_error::{ServeFault, is_no_memory};
-use grpcweb_core::IoFault;
-use proto_base::{Fault, Kind, line_column};
-use proto_compile::Source;
+use counted_io::{IoFault, is_no_memory};
+use proto_base::Kind;
 use source_folder::FolderFault;
 use std::alloc::{AllocError, AllocFailed};
 use std::error::Error;
@@ -180,43 +175,5 @@ impl From<IoFault> for Failure {
             IoFault::WriteFault { .. } => Failure::Output,
             IoFault::NoMemory => Failure::NoMemory,
         }
-    }
-}
-
-impl From<ServeFault> for Failure {
-    ghost from_gives = { λ fault failure. failure ≡ of_service fault };
-
-    fn from(fault: ServeFault) -> Failure {
-        match fault {
-            ServeFault::AcceptFault => Failure::Accept,
-            ServeFault::NoMemory => Failure::NoMemory,
-        }
-    }
-}
-
-/// The first of the sources that has a name.
-pub fn source_named<'a, 's>(sources: &'a [Source<'s>], name: &str) -> Option<&'a Source<'s>>
-    ensures first { option_map (λ source. source.now) result ≡ source_named sources.now name.now }
-    ensures listed { IfSome result (λ source. Contains sources.now source.now × (name_of source.now ≡ name.now)) }
-{
-    sources.iter().find(|source| source.name == name)
-}
-
-/// A fault with its line and column in the text of its file. A fault of the list of sources has no file, and stands at 1, 1.
-pub fn locate(fault: Fault, sources: &[Source]) -> Failure
-    requires within { (source : Source) → Contains sources.now source
-        → name_of source ≡ string_bytes fault.file → fault.place.offset ≤ length (text_of source) }
-    requires short { fault.place.offset < 2 ^ 32 - 1 }
-    ensures { result ≡ located sources.now fault }
-{
-    let (line, column) = match source_named(sources, fault.file.as_str()) {
-        Some(source) => line_column(source.text, fault.place),
-        None => (1, 1),
-    };
-    Failure::Source {
-        file: fault.file,
-        line,
-        column,
-        kind: fault.kind,
     }
 }

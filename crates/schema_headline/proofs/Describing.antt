@@ -4,7 +4,8 @@ use Rattle.std.proofs.lemmas.List.{length-map}
 use Rattle.std.proofs.lemmas.List.Sorted.{Contains-permutation, length_permutation}
 use Rattle.proto_links.specs.Linked.{count_of}
 use Rattle.proto_base.specs.declared.limits.Limits.{Limits}
-use Rattle.proto_compile.specs.Compilation.{Compilation, IsCompiled, IsNamed, bytes_at, file_name}
+use Rattle.proto_compilation.specs.Compilation.{Compilation, IsNamed, bytes_at, file_name}
+use Rattle.proto_compile.specs.Compiled.{IsCompiled}
 use Rattle.proto_compile.specs.Sources.{name_of}
 use Rattle.proto_compile.specs.declared.source.Source.{Source}
 use Rattle.proto_compile.proofs.Making.{counts}

@@ -1,7 +1,8 @@
 -- What sources give is one thing, or their first fault.
 use Rattle.std.proofs.Common.{◌≡◌, refl, ℕ, List, Result, Ok, Err, IfErr, IfOk, IsErrAnd, MatchResult, Vec, Global}
 use Rattle.proto_base.specs.declared.limits.Limits.{Limits}
-use Rattle.proto_compile.specs.Compilation.{Compilation, IsCompiled}
+use Rattle.proto_compilation.specs.Compilation.{Compilation}
+use Rattle.proto_compile.specs.Compiled.{IsCompiled}
 use Rattle.proto_compile.specs.FaultSet.{IsLeastFault, SourceFault, TellsOf, told_by}
 use Rattle.proto_compile.specs.declared.error.CompileError.{CompileError}
 use Rattle.proto_compile.specs.declared.error.CompileError.TheVariants as errors

@@ -2,10 +2,13 @@
 use Rattle.std.proofs.Common.{◌≡◌, ◌∙◌, sym, ap, ℕ, List, [], ◌∷◌, arith, flat_map}
 use Rattle.first_reach.specs.declared.mode.Mode.{Mode}
 use Rattle.proto_base.specs.declared.limits.Limits.{Limits}
-use Rattle.proto_compile.specs.Compilation.{Compilation, CompiledFile, IsCompiled, bytes_at}
+use Rattle.proto_compilation.specs.Compilation.{Compilation, CompiledFile, bytes_at}
+use Rattle.proto_compile.specs.Compiled.{IsCompiled}
 use Rattle.proto_compile.specs.declared.source.Source.{Source}
 use Rattle.proto_compile.proofs.OneCompilation.{one_compilation}
-use Rattle.reflect_core.proofs.OneResponse.{is_one, one_response}
+use Rattle.proto_compile.proofs.Alike.{alike}
+use Rattle.proto_compile.proofs.Making.{sound}
+use Rattle.reflect_core.proofs.OneResponse.{one_response}
 use Rattle.schema_headline.specs.Describe.{IsDescribedBy}
 use Rattle.schema_headline.specs.Headline.{IsResponseOf, IsSetOf}
 use Rattle.schema_headline.proofs.Describing.{only_file}
@@ -30,7 +33,7 @@ pub one_response_of : (mode : Mode) (limits : Limits) (sources : List Source) (b
     → IsResponseOf mode limits sources body a
     → IsResponseOf mode limits sources body b → a ≡ b
 one_response_of mode limits sources body a b (c, is, at) (d, is', at') =
-    one_response c d (is_one limits sources c d is is') mode body a b at at'
+    one_response c d (sound limits sources c is) (alike limits sources c d is is') mode body a b at at'
 
 -- what is given is of sources that are compiled
 pub described_from : (limits : Limits) (s : Source) (a : List ℕ) → IsDescribedBy limits s a

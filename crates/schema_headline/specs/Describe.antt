@@ -2,7 +2,8 @@
 use Rattle.std.specs.Prelude.{◌≡◌, ℕ, List, [], ◌∷◌, Result, Vec, IfOk, IfErr, IsErrAnd, MatchResult}
 use Rattle.std.specs.declared.alloc.Global.{Global}
 use Rattle.proto_base.specs.declared.limits.Limits.{Limits}
-use Rattle.proto_compile.specs.Compilation.{Compilation, IsCompiled, IsNamed, bytes_at}
+use Rattle.proto_compilation.specs.Compilation.{Compilation, IsNamed, bytes_at}
+use Rattle.proto_compile.specs.Compiled.{IsCompiled}
 use Rattle.proto_compile.specs.FaultSet.{IsLeastFault, IsPlaced, SourceFault, TellsOf}
 use Rattle.proto_compile.specs.Sources.{name_of}
 use Rattle.proto_compile.specs.declared.error.CompileError.{CompileError}

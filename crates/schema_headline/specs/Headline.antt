@@ -2,7 +2,8 @@
 use Rattle.std.specs.Prelude.{◌≡◌, ℕ, List}
 use Rattle.first_reach.specs.declared.mode.Mode.{Mode}
 use Rattle.proto_base.specs.declared.limits.Limits.{Limits}
-use Rattle.proto_compile.specs.Compilation.{Compilation, IsCompiled, set_of}
+use Rattle.proto_compilation.specs.Compilation.{Compilation, set_of}
+use Rattle.proto_compile.specs.Compiled.{IsCompiled}
 use Rattle.proto_compile.specs.declared.source.Source.{Source}
 use Rattle.reflect_core.specs.Response.{IsResponse}
 

@@ -3,7 +3,9 @@
 #![tactic(auto)]
 
 mod headline;
+mod laws;
 mod one_source;
 
 pub use headline::{response_to_sources, set_of_sources};
+pub use laws::headline_is_unique;
 pub use one_source::describe;

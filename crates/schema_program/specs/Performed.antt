@@ -1,8 +1,8 @@
 -- What a run did, and what it ended with.
 use Rattle.std.specs.Prelude.{◌≡◌, ℕ, List, Option, Some, None, IfSome, Result, Ok, Err}
 use Rattle.clap.specs.declared.parser.matches.ArgMatches.{ArgMatches}
-use Rattle.grpcweb_core.specs.Exchange.{IsWritten, IsWrittenInPart}
-use Rattle.grpcweb_core.specs.Streams.{Reads, Writes}
+use Rattle.counted_io.specs.Runs.{IsWritten, IsWrittenInPart}
+use Rattle.counted_io.specs.Streams.{Reads, Writes}
 use Rattle.schema_check.specs.Runs.{IsFolderCheck}
 use Rattle.schema_command_line.specs.Tasks.{IsAsked}
 use Rattle.schema_command_line.specs.declared.task.Task.{Task}

@@ -7,7 +7,7 @@ ghost use Rattle.schema_program.specs.Performed.{IsEndOf, IsPerformed, IsRun, Is
 
 use clap::Error;
 use clap::error::ErrorKind;
-use grpcweb_core::{CountedRead, CountedWrite, write_bytes};
+use counted_io::{CountedRead, CountedWrite, write_bytes};
 use proto_base::Limits;
 use schema_check::run_check;
 use schema_command_line::{Selection, Task, task_of};

@@ -1,9 +1,9 @@
 -- A run of `serve` that was cut off while its line was written.
 use Rattle.std.proofs.Common.{◌≡◌, List, ℕ, Err, refl}
-use Rattle.grpcweb_core.specs.Runs.{IsWriteRun}
-use Rattle.grpcweb_core.specs.Streams.{Writes}
-use Rattle.grpcweb_core.specs.declared.stream.IoFault.{IoFault}
-use Rattle.grpcweb_core.specs.declared.stream.IoFault.TheVariants as io_fault
+use Rattle.counted_io.specs.Runs.{IsWriteRun}
+use Rattle.counted_io.specs.Streams.{Writes}
+use Rattle.counted_io.specs.declared.stream.IoFault.{IoFault}
+use Rattle.counted_io.specs.declared.stream.IoFault.TheVariants as io_fault
 use Rattle.schema_failure.specs.Faults.{of_exchange}
 use Rattle.schema_serve.specs.Runs.{IsAddress, IsCutOff, listening_line, unsaid}
 use Rattle.std.specs.declared.net.SocketAddr.{SocketAddr}

@@ -3,13 +3,14 @@ use Rattle.std.specs.Net.Grammar.{IsSocketText}
 use Rattle.std.specs.Net.Text.{socket_text}
 use Rattle.std.specs.Prelude.{◌≡◌, ℕ, List, ◌++◌, ◌⊎◌, codes, Option, None, Result, Ok, Err}
 use Rattle.std.specs.declared.net.SocketAddr.{SocketAddr}
-use Rattle.device_error.specs.declared.serve_fault.ServeFault.{ServeFault}
-use Rattle.grpcweb_core.specs.Exchange.{IsWritten, IsWrittenInPart}
-use Rattle.grpcweb_core.specs.Streams.{Writes}
+use Rattle.http_connection.specs.declared.serve_fault.ServeFault.{ServeFault}
+use Rattle.http_connection.specs.declared.serve_fault.ServeFault.TheVariants as serve_fault
+use Rattle.counted_io.specs.Runs.{IsWritten, IsWrittenInPart}
+use Rattle.counted_io.specs.Streams.{Writes}
 use Rattle.proto_base.specs.declared.limits.Limits.{Limits}
-use Rattle.proto_compile.specs.Compilation.{Compilation}
-use Rattle.schema_commands.specs.Runs.{IsCompiledTo, IsToldOfFolder}
-use Rattle.schema_failure.specs.Faults.{of_service}
+use Rattle.proto_compilation.specs.Compilation.{Compilation}
+use Rattle.schema_compile.specs.Compiled.{IsCompiledTo}
+use Rattle.schema_compile.specs.Told.{IsToldOfFolder}
 use Rattle.schema_failure.specs.declared.failure.Failure.{Failure}
 use Rattle.schema_failure.specs.declared.failure.Failure.TheVariants as failure
 use Rattle.schema_sources.specs.Texts.{AreStandard, KnownSources}
@@ -25,6 +26,11 @@ IsAddress listen = (asked : SocketAddr) × IsSocketText listen asked
 -- the folder's texts are compiled, by the standard limits
 abbrev pub IsFolderCompiled : KnownSources → Type 0
 IsFolderCompiled known = (limits : Limits) × AreStandard limits × (c : Compilation) × IsCompiledTo limits known c
+
+-- the failure that the end of a service is
+abbrev pub of_service : ServeFault → Failure
+of_service serve_fault.AcceptFault = failure.Accept
+of_service serve_fault.NoMemory = failure.NoMemory
 
 -- the service failed before the line, in it, or behind it
 pub data IsCutOff (listen : List ℕ) (writes writes' : Writes) (f : Failure) : Type 0 where

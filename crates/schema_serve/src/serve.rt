@@ -2,12 +2,14 @@
 
 ghost use Rattle.std.specs.Prelude.{◌≡◌, ◌-◌, ◌<◌, ◌^◌, IfErr, IfOk};
 ghost use Rattle.schema_failure.specs.declared.failure.Failure.TheVariants as failures;
-ghost use Rattle.schema_serve.specs.Runs.{IsAddress, IsServeRun};
+ghost use Rattle.schema_serve.specs.Runs.{IsAddress, IsServeRun, of_service};
 
-use grpcweb_core::{CountedWrite, Mode, write_bytes};
+use counted_io::{CountedWrite, write_bytes};
+use grpcweb_core::Mode;
 use grpcweb_service::serve;
+use http_connection::ServeFault;
 use proto_base::Limits;
-use schema_commands::compile_folder;
+use schema_compile::compile_folder;
 use schema_failure::Failure;
 use schema_sources::SourceFolder;
 use share_work::{NoGate, Plan};
@@ -19,6 +21,16 @@ use std::thread::Threads;
 use std::time::Clock;
 use tokio::net::TcpListener;
 use tokio::runtime::Runtime;
+
+/// The failure that the end of a service is.
+fn failure_of(fault: ServeFault) -> Failure
+    ensures { result ≡ of_service fault }
+{
+    match fault {
+        ServeFault::AcceptFault => Failure::Accept,
+        ServeFault::NoMemory => Failure::NoMemory,
+    }
+}
 
 /// A runtime, and a listener at this address and port; `Failure::Listen` where there is none.
 fn listen_at<R>(rt: &R, listen: &str) -> Result<(Runtime, TcpListener), Failure>
@@ -61,7 +73,7 @@ where
     let bound = listener.local_addr().map_err(|_| Failure::Listen)?;
     let line = format!(in rt.alloc(); "listening on {bound}\n")?;
     write_bytes(output, line.as_bytes())?;
-    serve(
+    match serve(
         rt,
         &mut runtime,
         listener,
@@ -70,6 +82,8 @@ where
         NoGate,
         mode,
         connections,
-    )?;
-    Ok(())
+    ) {
+        Ok(_) => Ok(()),
+        Err(fault) => Err(failure_of(fault)),
+    }
 }

@@ -1,7 +1,7 @@
 //! A schema server for Protocol Buffers.
 #![tactic(auto)]
 
-use grpcweb_core::Counted;
+use counted_io::Counted;
 use schema_program::run;
 use std::process::ExitCode;
 use std::{env, io};

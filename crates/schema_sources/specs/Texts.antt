@@ -5,9 +5,7 @@ use Rattle.proto_base.specs.Limits.{limit_of}
 use Rattle.proto_base.specs.StandardLimits.{standard_of}
 use Rattle.proto_base.specs.declared.limits.Limit.{Limit}
 use Rattle.proto_base.specs.declared.limits.Limits.{Limits}
-use Rattle.proto_compile.specs.Sources.{name_of, text_of}
-use Rattle.proto_compile.specs.declared.source.Source.{Source}
-use Rattle.source_folder.specs.Folder.{NamedBytes, named_bytes, names_of}
+use Rattle.source_folder.specs.Folder.{NamedBytes, named_bytes}
 use Rattle.source_folder.specs.declared.folder.NamedText.{NamedText}
 
 -- the bytes of texts
@@ -29,11 +27,6 @@ AreNamesOf known names = IfSome known (λ sources. map string_bytes names ≡ ma
 -- a text that may be that of the folder's source of this name: the known one, where there is one
 abbrev pub IsTextUnder : KnownSources → (name text : List ℕ) → Type 0
 IsTextUnder known name text = IfSome known (All (λ source. source.0 ≡ name → text ≡ source.1))
-
--- sources with the names and the bytes of these texts, in their order
-pub record AreSourcesOf (texts : List NamedText) (sources : List Source) : Type 0 where
-  pub named : map name_of sources ≡ names_of texts
-  pub bytes : map text_of sources ≡ map bytes_of texts
 
 -- the limits of a run
 abbrev pub AreStandard : Limits → Type 0

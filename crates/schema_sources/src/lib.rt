@@ -4,10 +4,8 @@
 mod folder;
 mod places;
 mod reading;
-mod sources;
 mod system_folder;
 
 pub use folder::{SourceFolder, read_sources};
 pub use places::{Elsewhere, Places};
-pub use sources::sources_of;
 pub use system_folder::{SystemFolder, trouble_of};

@@ -6,7 +6,7 @@ use Rattle.std.specs.declared.alloc.AllocError.{AllocError}
 use Rattle.std.specs.declared.fs.Metadata.{Metadata}
 use Rattle.std.specs.declared.io.Error.{Error}
 use Rattle.std.specs.declared.io.ErrorKind.TheVariants.{FilesystemLoop, NotADirectory, NotFound}
-use Rattle.device_error.specs.Memory.{LacksMemory}
+use Rattle.counted_io.specs.Memory.{LacksMemory}
 use Rattle.source_folder.specs.Reasons.{IsReasonOf}
 use Rattle.source_folder.specs.declared.kind.Identity.{Identity}
 use Rattle.source_folder.specs.declared.kind.EntryKind.{EntryKind}

@@ -1,7 +1,7 @@
 -- Why a folder could not be read, and which entry was the trouble.
 use Rattle.std.specs.Prelude.{◌≡◌, ℕ, List, ◌++◌, ◌⊎◌, Option, None, Some, IsSomeAnd, codes, string_bytes}
 use Rattle.std.specs.declared.io.Error.{Error}
-use Rattle.device_error.specs.Memory.{LacksMemory}
+use Rattle.counted_io.specs.Memory.{LacksMemory}
 use Rattle.source_folder.specs.Reasons.{IsReasonOf, words_of, words_of_fault}
 use Rattle.source_folder.specs.declared.fault.FolderFault.{FolderFault}
 use Rattle.source_folder.specs.declared.fault.FolderFault.TheVariants as faults

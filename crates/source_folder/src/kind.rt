@@ -3,7 +3,7 @@
 ghost use Rattle.source_folder.specs.Kinds.{IsKind, IsKindBehind};
 
 use crate::reason::Reason;
-use device_error::is_no_memory;
+use counted_io::is_no_memory;
 use std::alloc::AllocError;
 use std::fs::{self, Metadata};
 use std::io;

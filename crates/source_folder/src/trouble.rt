@@ -7,7 +7,7 @@ ghost use Rattle.source_folder.specs.Troubles.{IsTroubleAt, IsTroubleOf, line_of
 
 use crate::fault::FolderFault;
 use crate::reason::Reason;
-use device_error::is_no_memory;
+use counted_io::is_no_memory;
 use std::alloc::{AllocError, AllocFailed, Global};
 use std::error::Error;
 use std::{fmt, io};

@@ -2,7 +2,7 @@
 
 ghost use Rattle.std.specs.Prelude.{◌≡◌, List, length, map, true, All, IfOk, IfErr, OnOk};
 ghost use Rattle.proto_compile.specs.Analysed.{AreResolved};
-ghost use Rattle.proto_compile.specs.Compilation.{IsShort};
+ghost use Rattle.proto_compile.specs.Compiled.{IsShort};
 ghost use Rattle.proto_compile.specs.FaultSet.{IsLeastFault, TellsOf};
 ghost use Rattle.proto_compile.specs.Outcomes.{IsWrittenShort};
 ghost use Rattle.proto_compile.specs.Steps.{items_of};

@@ -18,7 +18,7 @@ response_to-requires g c =
     at c.in_ok-carried.ensures in
     let listed = rw c.deref-4.ensures.value at c.in_ok-services.ensures in
     rw (c.as_slice.ensures.value, c.deref-5.ensures.value, c.deref-6.ensures.value)
-    (replyable compiled c.holds_replies.ensures (map bytes_of c.in_ok-stream.stream.messages.items) _ _
+    (replyable compiled c.is_sound.ensures (map bytes_of c.in_ok-stream.stream.messages.items) _ _
     c.in_ok-services.services.items c.args.mode (allowed_of compiled c.args.body.now _ _ reads) asked
     c.in_ok-asked.ensures.within lists listed)
 

@@ -1,7 +1,7 @@
 use Rattle.std.proofs.Common.{ℕ, List, subst, sym}
 use Rattle.proto_compile.specs.declared.source.Source.{Source}
 use Rattle.schema_check.specs.Runs.{IsFound}
-use Rattle.schema_sources.specs.Texts.{AreSourcesOf}
+use Rattle.schema_compile.specs.Sources.{AreSourcesOf}
 use Rattle.schema_check.proofs.Running.{unwritten}
 use Rattle.schema_check.proofs.check.check_texts.Goals as goal
 

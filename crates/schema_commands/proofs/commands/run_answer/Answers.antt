@@ -1,5 +1,5 @@
 use Rattle.std.proofs.Common.{inl, inr, refl}
-use Rattle.schema_commands.proofs.Telling.{handed_on}
+use Rattle.schema_compile.proofs.Telling.{handed_on}
 use Rattle.schema_commands.proofs.commands.run_answer.Goals as goal
 
 pub returns-in_err-compiled : goal.returns-in_err-compiled

@@ -1,6 +1,6 @@
-use Rattle.schema_commands.proofs.Telling.{handed_on, unread_folder}
+use Rattle.schema_compile.proofs.Telling.{handed_on, unread_folder}
 use Rattle.std.proofs.Common.{inl, inr, refl}
-use Rattle.proto_compile.specs.Compilation.{set_of}
+use Rattle.proto_compilation.specs.Compilation.{set_of}
 use Rattle.schema_commands.proofs.commands.run_compile.Goals as goal
 
 pub returns-in_err-chunk : goal.returns-in_err-chunk

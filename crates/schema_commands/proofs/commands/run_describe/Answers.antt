@@ -1,4 +1,5 @@
-use Rattle.schema_commands.proofs.Telling.{handed_on, refused, unwritten}
+use Rattle.schema_commands.proofs.Telling.{refused, unwritten}
+use Rattle.schema_compile.proofs.Telling.{handed_on}
 use Rattle.std.proofs.Common.{refl}
 use Rattle.schema_commands.proofs.commands.run_describe.Goals as goal
 

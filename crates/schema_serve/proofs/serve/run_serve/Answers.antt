@@ -1,5 +1,5 @@
 use Rattle.std.proofs.Common.{◌∙◌, arith, inl, inr, refl, rules}
-use Rattle.schema_commands.proofs.Telling.{handed_on}
+use Rattle.schema_compile.proofs.Telling.{handed_on}
 use Rattle.schema_serve.specs.Runs.{unheard, ended}
 use Rattle.schema_serve.proofs.Cutting.{cut_in_line}
 use Rattle.schema_serve.proofs.serve.run_serve.Goals as goal
@@ -51,17 +51,15 @@ returns-in_err-write_bytes g c =
           c.in_err-write_bytes.ensures,
     ))
 
-pub returns-in_err-serve : goal.returns-in_err-serve
-returns-in_err-serve g c =
-    rw (handed_on c.from_residual-in_err-serve.result _ c.from_residual-in_err-serve.ensures.1)
-    (inr (
-      (c.standard.result, c.standard.ensures, c.in_ok-compiled.compiled, c.in_ok-compiled.ensures.compiled),
-      ended c.in_err-serve.field-0.0 refl c.in_ok-runtime.ensures.asked c.in_ok-bound.bound
-          (rw (c.as_bytes.ensures.value ∙ c.in_ok-line.ensures.ok) at c.in_ok-write_bytes.ensures),
-    ))
-
 pub returns : goal.returns
-returns g c = (
+returns g c = inr (
+  (c.standard.result, c.standard.ensures, c.in_ok-compiled.compiled, c.in_ok-compiled.ensures.compiled),
+  ended c.in-Err.fault c.failure_of.ensures c.in_ok-runtime.ensures.asked c.in_ok-bound.bound
+      (rw (c.as_bytes.ensures.value ∙ c.in_ok-line.ensures.ok) at c.in_ok-write_bytes.ensures),
+)
+
+pub returns-in-Ok : goal.returns-in-Ok
+returns-in-Ok g c = (
   λ none. grind (arith, none),
   (c.standard.result, c.standard.ensures, c.in_ok-compiled.compiled, c.in_ok-compiled.ensures.compiled),
   c.in_ok-runtime.ensures.asked,

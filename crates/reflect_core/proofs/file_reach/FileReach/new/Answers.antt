@@ -1,19 +1,14 @@
-use Rattle.reflect_core.proofs.Common.{◌<◌, length, arith, ap, ◌==◌, count_by-le-length, length-filter, AllZip-long, Linked, count_of, reach_of}
+use Rattle.reflect_core.proofs.Common.{◌<◌, length, arith, ap, ◌==◌, count_by-le-length, length-filter, Linked, count_of, reach_of}
 use Rattle.std.specs.Set.{is_member}
-use Rattle.std.proofs.lemmas.List.Sorted.{length_permutation}
-use Rattle.proto_compile.specs.Descriptions.{SourceDescribes}
 use Rattle.reflect_core.proofs.file_reach.FileReach.new.Goals as goal
 
 pub invariant_of-result : goal.invariant_of-result
 invariant_of-result c =
     let compiled = c.args.compiled.now in let links = c.links-links.result.now in
-    let written = c.is_of_sources.ensures.1.written in let analysed = written.resolved.analysed in
-    let described = analysed.described in
-    let same = length_permutation c.is_of_sources.ensures.0 written.sorted described.by_name.all in
-    let long = AllZip-long (SourceDescribes compiled.limits) written.sorted written.resolved.descs described.each in
+    let coherent = c.is_sound.ensures.coherent in
     let counted = ap (λ (l : Linked). count_of l) c.links-links.ensures in
     let few : count_of links < 18446744073709551615 =
-    omega (arith, same, long, analysed.linked.count, described.few, counted, compiled.limits.files_bound) in
+    omega (arith, coherent.linked, coherent.few, counted, compiled.limits.files_bound) in
     let whole = c.reaches_are_whole.ensures in
     record {
       whole = ∣ whole ∣₁;

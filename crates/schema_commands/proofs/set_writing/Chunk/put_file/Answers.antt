@@ -1,4 +1,4 @@
-use Rattle.schema_commands.proofs.Telling.{handed_on}
+use Rattle.schema_compile.proofs.Telling.{handed_on}
 use Rattle.std.proofs.Common.{◌++◌, [], ap, arith, length, length-append, Err, Ok}
 use Rattle.wire_format.proofs.Varints.{varint_short}
 use Rattle.wire_format.specs.Varint.{varint_bytes}

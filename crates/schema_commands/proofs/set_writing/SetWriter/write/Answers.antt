@@ -1,6 +1,7 @@
-use Rattle.schema_commands.proofs.Telling.{handed_on}
+use Rattle.schema_compile.proofs.Telling.{handed_on}
 use Rattle.std.proofs.Common.{◌∙◌, ◌++◌, List, ℕ, [], ap, arith, get_or, subst, take, Err, Ok, flat_map, take_all}
-use Rattle.proto_compile.specs.Compilation.{bytes_at}
+use Rattle.proto_compilation.specs.Compilation.{bytes_at}
+use Rattle.proto_compilation.proofs.Within.{ordered_within}
 use Rattle.wire_format.specs.Field.{bytes_field}
 use Rattle.schema_commands.specs.Runs.{IsOutput}
 use Rattle.schema_commands.proofs.Setting.{file_below, gathered_after, output_after, output_cut, set_more, set_split}
@@ -9,12 +10,9 @@ use Rattle.schema_commands.proofs.set_writing.SetWriter.write.Goals as goal
 pub bytes_at-requires : goal.bytes_at-requires
 bytes_at-requires g c =
     let same = c.set_order-file-items.ensures ∙ ap (λ l. l.set_order) c.links.ensures in
-    let sound = c.is_sound.ensures in
-    omega (
-      arith,
-      sound.linked,
-      file_below c.set_order-file-items.result.now _ _ _ same sound.inside c.loop-file-test.true,
-    )
+    let coherent = c.is_sound.ensures.coherent in
+    let inside = ordered_within _ coherent in
+    omega (arith, coherent.linked, file_below c.set_order-file-items.result.now _ _ _ same inside c.loop-file-test.true)
 
 pub loop-file-preserved : goal.loop-file-preserved
 loop-file-preserved g c =

@@ -1,5 +1,5 @@
 use Rattle.std.proofs.Common.{[], take, Ok, flat_map}
-use Rattle.proto_compile.specs.Compilation.{bytes_at}
+use Rattle.proto_compilation.specs.Compilation.{bytes_at}
 use Rattle.wire_format.specs.Field.{bytes_field}
 use Rattle.schema_commands.specs.Gathered.{IsGathered}
 use Rattle.schema_commands.proofs.set_writing.SetWriter.write.Given as goal

@@ -1,9 +1,0 @@
-use Rattle.std.proofs.Common.{arith}
-use Rattle.grpcweb_core.proofs.Moving.{put_end, read_more}
-use Rattle.grpcweb_core.proofs.exchange.fill.Goals as goal
-
-pub loop-filled-preserved : goal.loop-filled-preserved
-loop-filled-preserved g c =
-    let so = c.loop-filled.invariant in
-    rw (put_end c.loop-filled.room c.read.new.buffer c.loop-filled.filled so.within)
-    (read_more _ _ _ _ _ _ _ so c.in-Ok.ensures.bound.0 (omega (arith, c.in-Ok.count-is)) c.in-Ok.ensures.once)

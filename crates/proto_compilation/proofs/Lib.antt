@@ -1,0 +1,2 @@
+mod Tabling
+pub mod Within

@@ -1,0 +1,4 @@
+pub mod Alike
+pub mod Compilation
+pub mod Parts
+pub mod Sound

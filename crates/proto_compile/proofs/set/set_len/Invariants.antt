@@ -1,8 +1,0 @@
-use Rattle.proto_compile.proofs.Common.{◌≡◌, ◌≤◌, length, take, flat_map, bytes_at, bytes_field}
-use Rattle.proto_compile.proofs.set.set_len.Given as goal
-
-abbrev pub invariant-loop-file : goal.invariant-loop-file
-invariant-loop-file l = record {
-  so_far : l.len ≡ length (flat_map (λ a. bytes_field 1 (bytes_at l.files a)) (take l.file-index l.file-items));
-  within : l.len ≤ l.most;
-}

@@ -1,5 +1,0 @@
-use Rattle.proto_compile.proofs.Tabling.{positioned}
-use Rattle.proto_compile.proofs.table.FileTable.position.Goals as goal
-
-pub returns : goal.returns
-returns c = rw (← c.self.view_is) (positioned _ c.args.name.now c.get_index_of.result c.get_index_of.ensures.index)

@@ -1,6 +1,0 @@
-use Rattle.std.proofs.Common.{arith}
-use Rattle.proto_compile.proofs.Tabling.{pushed}
-use Rattle.proto_compile.proofs.table.FileTable.push.Goals as goal
-
-pub returns : goal.returns
-returns c = grind (arith, pushed)

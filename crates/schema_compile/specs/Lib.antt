@@ -1,0 +1,4 @@
+pub mod Compiled
+pub mod Placed
+pub mod Sources
+pub mod Told

@@ -1,6 +1,0 @@
-use Rattle.std.proofs.Common.{take}
-use Rattle.schema_sources.specs.Texts.{AreSourcesOf}
-use Rattle.schema_sources.proofs.sources.sources_of.Given as goal
-
-abbrev pub invariant-loop-text : goal.invariant-loop-text
-invariant-loop-text l = AreSourcesOf (take l.text-index l.texts) l.sources.items
