@@ -43,5 +43,48 @@ prints 'a service that is not there' shop.Nowhere <<'TEXT'
 error 5: not found
 TEXT
 
+# No answer: one line, which names the URL.
+served=$url
+url=${served#http://}
+prints 'no URL' <<TEXT
+$url is no URL: it begins with http://
+TEXT
+url=$served/elsewhere
+prints 'another path' <<TEXT
+$url: grpc-status:12
+TEXT
 stop
+url=$served
+prints 'nothing that listens' <<TEXT
+$url: [Errno 111] Connection refused
+TEXT
+mkfifo "$folder/port"
+"$python" - >"$folder/port" <<'SERVER' &
+import http.server
+
+class Answer(http.server.BaseHTTPRequestHandler):
+    def do_POST(self):
+        if self.path.startswith("/page/"):
+            self.send_response(200)
+            self.end_headers()
+            self.wfile.write(b"<html>")
+        else:
+            self.send_error(404)
+
+    def log_message(self, *words):
+        pass
+
+server = http.server.HTTPServer(("127.0.0.1", 0), Answer)
+print(server.server_port, flush=True)
+server.serve_forever()
+SERVER
+read -r port <"$folder/port"
+url=http://127.0.0.1:$port
+prints 'another server' <<TEXT
+$url: HTTP status 404, so it is no schema server
+TEXT
+url=$url/page
+prints 'a page' <<TEXT
+$url: no gRPC-Web response, so it is no schema server
+TEXT
 [ "$failures" = 0 ]

@@ -7,8 +7,10 @@ usage: reflect.py URL             the names of all services
 It needs Python's protobuf runtime and, once, the code of the reflection protocol itself:
 protoc -I tests --python_out=examples/clients tests/reflection.proto
 """
+import http.client
 import struct
 import sys
+import urllib.error
 import urllib.request
 
 from google.protobuf import descriptor_pb2, descriptor_pool, json_format, message_factory
@@ -18,24 +20,44 @@ import reflection_pb2 as reflection
 PATH = "/grpc.reflection.v1.ServerReflection/ServerReflectionInfo"
 
 
+def answer_of(url, body):
+    """The bytes with which the service answers a body. Where it gives none, the program ends with one line."""
+    if not url.startswith(("http://", "https://")):
+        sys.exit(f"{url} is no URL: it begins with http://")
+    request = urllib.request.Request(url.rstrip("/") + PATH, body, {"content-type": "application/grpc-web+proto"})
+    try:
+        with urllib.request.urlopen(request) as answer:
+            return answer.read()
+    except urllib.error.HTTPError as error:
+        sys.exit(f"{url}: HTTP status {error.code}, so it is no schema server")
+    except (OSError, ValueError, http.client.HTTPException) as error:
+        sys.exit(f"{url}: {getattr(error, 'reason', error)}")
+
+
+def frames_of(url, response):
+    """The frames of a response: a flag and a message each."""
+    while response:
+        size = int.from_bytes(response[1:5], "big")
+        if len(response) < 5 + size:
+            sys.exit(f"{url}: no gRPC-Web response, so it is no schema server")
+        yield response[0], response[5 : 5 + size]
+        response = response[5 + size :]
+
+
 def ask(url, *requests):
     """The replies to requests, which are sent as one gRPC-Web stream of frames: a flag, a length, a message."""
     body = b""
     for request in requests:
         message = request.SerializeToString()
         body += struct.pack(">BI", 0, len(message)) + message
-    post = urllib.request.Request(url + PATH, body, {"content-type": "application/grpc-web+proto"})
-    with urllib.request.urlopen(post) as answer:
-        response = answer.read()
     replies = []
-    while response:
-        flag, size = struct.unpack_from(">BI", response)
-        message, response = response[5 : 5 + size], response[5 + size :]
-        if flag & 0x80:
-            if message != b"grpc-status:0\r\n":
-                sys.exit(message.decode().strip())
-        else:
+    for flag, message in frames_of(url, answer_of(url, body)):
+        if not flag & 0x80:
             replies.append(reflection.ServerReflectionResponse.FromString(message))
+        elif message != b"grpc-status:0\r\n":
+            sys.exit(f"{url}: {message.decode(errors='replace').strip()}")
+    if len(replies) < len(requests):
+        sys.exit(f"{url}: no gRPC-Web response, so it is no schema server")
     for reply in replies:
         if reply.HasField("error_response"):
             sys.exit(f"error {reply.error_response.error_code}: {reply.error_response.error_message}")
