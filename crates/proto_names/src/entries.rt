@@ -23,7 +23,7 @@ use std::marker::Model;
 /// Entries and the text of their own names, in which each stands behind the last. Contracts see them as the occurrences that
 /// they stand for.
 #[derive(Drop)]
-pub(crate) struct Entries {
+pub struct Entries {
     text: String,
     entries: Vec<Entry>,
 }
@@ -95,7 +95,7 @@ fn put_prefixes(
 
 impl Entries {
     /// No entries, which take no memory.
-    pub(crate) fn new(alloc: Global) -> Entries
+    pub fn new(alloc: Global) -> Entries
         ensures { result ≡ [] }
     {
         Entries {
@@ -118,7 +118,7 @@ impl Entries {
 
     /// Puts entries of a package's name and its shorter prefixes behind the others, the longest first. It gives the first as a
     /// scope, which is none where the name is empty.
-    pub(crate) fn push_package(
+    pub fn push_package(
         &mut self,
         name: &str,
         location: Location,
@@ -137,7 +137,7 @@ impl Entries {
 
     /// Puts an entry of a name behind the others, in the scope whose entry stands at a position; without one, in no scope. It
     /// gives the new entry as a scope, which is none where its full name is empty.
-    pub(crate) fn push(
+    pub fn push(
         &mut self,
         scope: Option<u32>,
         name: &str,
@@ -173,7 +173,7 @@ impl Entries {
     }
 
     /// How many entries there are.
-    pub(crate) fn len(&self) -> usize
+    pub fn len(&self) -> usize
         ensures { result ≡ length self.now }
     {
         self.entries.len()
