@@ -1,8 +1,8 @@
 //! The entries of an index: the occurrences of full names, whose own names stand in one text.
 
-ghost use Rattle.std.specs.Prelude.{◌≡◌, ◌≢◌, ◌⊎◌, ℕ, ◌<◌, ◌++◌, ◌∷◌, [], List, length, IfOk, IsUtf8, MatchOption, None, OnOk, map};
+ghost use Rattle.std.specs.Prelude.{◌≡◌, ◌≢◌, ◌⊎◌, ℕ, ◌<◌, ◌≤◌, All, ◌++◌, ◌∷◌, [], List, length, IfOk, IsUtf8, MatchOption, None, OnOk, map};
 ghost use Rattle.std.specs.List.{fold};
-ghost use Rattle.proto_names.specs.Entries.{AreEntriesOf, IsScopeAmong, occurrences_of_entries, scope_name};
+ghost use Rattle.proto_names.specs.Entries.{AreEntriesOf, IsFirstLonger, IsScopeAmong, occurrences_of_entries, scope_name};
 ghost use Rattle.proto_names.specs.Hashes.{hash_of, hash_step, rolling_hash};
 ghost use Rattle.proto_names.specs.Occurrences.{package_occurrence};
 ghost use Rattle.proto_names.specs.Order.{location_of};
@@ -177,6 +177,20 @@ impl Entries {
         ensures { result ≡ length self.now }
     {
         self.entries.len()
+    }
+
+    /// Where the first name stands that has more bytes than this.
+    pub fn first_longer(&self, most: usize) -> Option<Location>
+        ensures { MatchOption result (All (λ o. length o.name ≤ most) self.now)
+            (λ location. (k : ℕ) × IsFirstLonger most self.now k
+            × (location ≡ location_of (at self.now k))) }
+    {
+        for position in 0..self.len() {
+            if !self.bytes(position).is_within(most) {
+                return Some(self.location(position));
+            }
+        }
+        None
     }
 
     /// The hash of the name at a position.
