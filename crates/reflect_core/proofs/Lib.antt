@@ -3,6 +3,7 @@ mod Carrying
 mod Common
 mod Constants
 mod Declaring
+mod Extending
 mod Numbering
 mod ReadBounds
 mod RepliesMore

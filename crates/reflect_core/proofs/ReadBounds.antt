@@ -1,8 +1,8 @@
 -- What a message names is no longer than the message.
-use Rattle.reflect_core.proofs.Common.{◌≡◌, ℕ, ◌≤◌, List, [], ◌∷◌, length, ap, arith, length-append, Option, Some, flat_map, filter_map, common_steps, cons_option, Ask, file_by_name, file_by_symbol, file_by_extension, extension_numbers, list_services, nothing, last_of, host_of, member_of, ReadsRequest}
+use Rattle.reflect_core.proofs.Common.{◌≡◌, ℕ, ◌≤◌, List, [], ◌∷◌, length, ap, arith, length-append, Option, Some, flat_map, filter_map, common_steps, cons_option, Ask, file_by_name, file_by_symbol, file_by_extension, extension_numbers, list_services, nothing, last_of, host_of, ReadsRequest, Bool, none-some, same_Some, AllZip, sym, None}
 use Rattle.std.specs.List.{AllByRecursion}
 use Rattle.reflect_requests.specs.Request.{GivesExtension, GivesMember, extension_asked, given_of, string_member}
-use Rattle.std.proofs.Common.{MatchBool, true, false}
+use Rattle.std.proofs.Common.{MatchBool, true, false, ◌==◌}
 use Rattle.wire_format.specs.Reading.{Value, number, bytes, Spelled, Body, varint_body, delimited, body_text, text_of, entry_of, entry_by}
 
 abbrev pub value_len : ℕ × Value → ℕ
@@ -77,8 +77,7 @@ pub read_bounds : (message host : List ℕ) (ask : Ask) → ReadsRequest message
 read_bounds message host ask reads =
     let whole = ap length reads.row.2 in
     let within = fields_within (length message) reads.row.0 (omega arith) in
-    let all : AllByRecursion (IsWithin (length message)) reads.fields = rw reads.row.3 within in
-    (
+    let all : AllByRecursion (IsWithin (length message)) reads.fields = rw reads.row.3 within in (
       rw reads.host_is (host_within (length message) reads.fields all [] (omega arith)),
       rw reads.asked_is (ask_within (length message) reads.fields reads.members reads.given all nothing (omega arith)),
     )

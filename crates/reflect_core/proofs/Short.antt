@@ -1,9 +1,10 @@
 -- Replies have room in a frame.
-use Rattle.reflect_core.proofs.Common.{ℕ, ◌+◌, ◌<◌, ◌≤◌, List, [], ◌∷◌, length, get_or, ap, arith, length-append, length-flat_map, Contains-get_or, sum_by-le, Compilation, bytes_field, Ask, Answer, IsAnswer, file, no_extensions, services, not_found, empty_request, Asked, contents_of, files_bytes, services_bytes, host_field, reply}
+use Rattle.reflect_core.proofs.Common.{ℕ, ◌+◌, ◌<◌, ◌≤◌, List, [], ◌∷◌, length, get_or, ap, arith, length-append, length-flat_map, Contains-get_or, sum_by-le, Compilation, bytes_field, Ask, Answer, IsAnswer, file, extensions, services, not_found, empty_request, Asked, contents_of, files_bytes, services_bytes, host_field, reply}
 use Rattle.proto_compilation.specs.Sound.{IsSound}
 use Rattle.proto_compilation.specs.Extensions.{DeclaredExtension, numbers_of}
 use Rattle.reflect_core.specs.Reply.{packed}
 use Rattle.std.proofs.Common.{bytes_eq, filter, flat_map}
+use Rattle.reflect_core.proofs.Common.{length-filter, count_by-le-length}
 use Rattle.std.proofs.lemmas.List.{length-map}
 use Rattle.wire_format.specs.Varint.{varint_bytes}
 use Rattle.wire_format.proofs.Varints.{varint_short}

@@ -64,11 +64,12 @@ fn extending_file<'b>(compiled: &Compiled, message: &'b str, number: u32) -> Ans
     ensures within { ForSome (root_of (answer_of result)) (λ a. a < count_of compiled.now.links) }
 {
     compiled.is_sound();
-    let mut extensions = compiled.extensions().iter();
-    match extensions.find(|e| e.number == number && e.message.as_str() == message) {
-        Some(extension) => Answer::File(extension.file),
-        None => Answer::NotFound,
+    for extension in compiled.extensions() {
+        if extension.number == number && extension.message.as_str() == message {
+            return Answer::File(extension.file);
+        }
     }
+    Answer::NotFound
 }
 
 /// The extensions of the message of this full name.
