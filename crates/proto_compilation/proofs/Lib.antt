@@ -1,2 +1,3 @@
 mod Tabling
+pub mod Rising
 pub mod Within

@@ -1,6 +1,7 @@
 -- A compilation.
 use Rattle.std.specs.Prelude.{◌≡◌, ℕ, ◌<◌, List, [], length, map, flat_map, slice_index_or}
 use Rattle.proto_base.specs.declared.limits.Limits.{Limits}
+use Rattle.proto_compilation.specs.Extensions.{DeclaredExtension}
 use Rattle.proto_links.specs.Linked.{Linked}
 use Rattle.proto_names.specs.Index.{Index}
 use Rattle.wire_format.specs.Field.{bytes_field}
@@ -10,11 +11,13 @@ pub record CompiledFile : Type 0 where
   pub name : List ℕ
   pub bytes : List ℕ
 
--- the files in the order of their names, their links, the index of their names, and the limits within which they stand
+-- the files in the order of their names, their links, the index of their names, their extensions, and the limits within
+-- which they stand
 pub record Compilation : Type 0 where
   pub files : List CompiledFile
   pub links : Linked
   pub index : Index
+  pub extensions : List DeclaredExtension
   pub limits : Limits
 
 abbrev pub file_name : CompiledFile → List ℕ

@@ -1,4 +1,5 @@
 pub mod Alike
 pub mod Compilation
+pub mod Extensions
 pub mod Parts
 pub mod Sound

@@ -1,14 +1,15 @@
 //! A compilation.
 
-ghost use Rattle.std.specs.Prelude.{◌≡◌, ℕ, ◌<◌, ◌≤◌, IfOk, IfSome, MatchOption, flat_map, length};
+ghost use Rattle.std.specs.Prelude.{◌≡◌, ℕ, ◌<◌, ◌≤◌, IfOk, IfSome, MatchOption, flat_map, length, map};
 ghost use Rattle.proto_base.specs.Limits.{limit_of};
 ghost use Rattle.proto_base.specs.declared.limits.Limit.TheVariants.{SetBytes};
 ghost use Rattle.proto_compilation.specs.Compilation.{IsNamed, bytes_at, set_of};
-ghost use Rattle.proto_compilation.specs.Parts.{compilation};
+ghost use Rattle.proto_compilation.specs.Parts.{compilation, declared_extension, extended};
 ghost use Rattle.proto_compilation.specs.Sound.{IsCoherent, IsSound};
 ghost use Rattle.proto_links.specs.Linked.{count_of, reach_of};
 ghost use Rattle.wire_format.specs.Field.{bytes_field};
 
+use crate::extension::Extension;
 use crate::set::{set_bytes, set_len};
 use crate::table::FileTable;
 use proto_base::{Limit, Limits};
@@ -18,12 +19,13 @@ use std::alloc::{AllocError, Global};
 use std::marker::Model;
 
 /// The descriptors of a list of files, with what answers about them. Contracts see it as its files in the order of their
-/// names, each with the bytes of its descriptor, their links, the index of their names, and the limits.
+/// names, each with the bytes of its descriptor, their links, the index of their names, their extensions, and the limits.
 #[derive(Drop)]
 pub struct Compiled {
     pub(crate) files: FileTable,
     pub(crate) links: Links,
     pub(crate) index: NameIndex,
+    pub(crate) extensions: Vec<Extension>,
     pub(crate) limits: Limits,
     /// How many bytes the set has.
     pub(crate) set_len: usize,
@@ -32,19 +34,23 @@ pub struct Compiled {
 
 impl Model for Compiled {
     ghost use Rattle.proto_compilation.specs.Compilation.{Compilation};
-    ghost use Rattle.proto_compilation.specs.Parts.{compilation};
+    ghost use Rattle.std.specs.Prelude.{map};
+    ghost use Rattle.proto_compilation.specs.Parts.{declared_extension, extended};
     ghost use Rattle.proto_compilation.specs.Sound.{IsSound};
 
     ghost Value = { Compilation };
 
-    ghost view = { λ compiled. compilation compiled.limits compiled.files compiled.links compiled.index };
+    ghost view = { λ compiled. extended compiled.limits compiled.files compiled.links compiled.index
+        (map declared_extension compiled.extensions.items) };
 
-    ghost invariant = { λ compiled. IsSound (compilation compiled.limits compiled.files compiled.links compiled.index) };
+    ghost invariant = { λ compiled. IsSound (extended compiled.limits compiled.files compiled.links compiled.index
+        (map declared_extension compiled.extensions.items)) };
 }
 
 impl Compiled {
-    /// The compilation of these, or none where their set has more bytes than the limit.
+    /// The compilation of these, which have no extensions, or none where their set has more bytes than the limit.
     pub fn new(
+        alloc: Global,
         files: FileTable,
         links: Links,
         index: NameIndex,
@@ -54,11 +60,29 @@ impl Compiled {
         ensures { MatchOption result (limit_of limits.now SetBytes < length (set_of files links))
             (λ compiled. compiled ≡ compilation limits.now files links index) }
     {
+        Compiled::with_extensions(files, links, index, Vec::new(alloc), limits)
+    }
+
+    /// The compilation of these with these extensions, or none where their set has more bytes than the limit.
+    pub fn with_extensions(
+        files: FileTable,
+        links: Links,
+        index: NameIndex,
+        extensions: Vec<Extension>,
+        limits: &Limits,
+    ) -> Option<Compiled>
+        requires { IsCoherent (extended limits.now files links index
+            (map declared_extension extensions.items)) }
+        ensures { MatchOption result (limit_of limits.now SetBytes < length (set_of files links))
+            (λ compiled. compiled ≡ extended limits.now files links index
+            (map declared_extension extensions.items)) }
+    {
         let set_len = set_len(&files, &links, limits.get(Limit::SetBytes))? as usize;
         Some(Compiled {
             files,
             links,
             index,
+            extensions,
             limits: *limits,
             set_len,
         })
@@ -100,7 +124,7 @@ impl Compiled {
         Some(self.bytes_at(file))
     }
 
-    /// A law: the links and the index are of these files, whose names rise, and they keep to the limits.
+    /// A law: the links and the index are of these files, whose names rise, the extensions rise, and all keep to the limits.
     pub fn is_sound(&self)
         ensures { IsSound self.now }
     {
@@ -131,6 +155,13 @@ impl Compiled {
         ensures { result.now ≡ self.now.index }
     {
         &self.index
+    }
+
+    /// The extensions that the files declare, by message and then by number, each number of a message once.
+    pub fn extensions(&self) -> &[Extension]
+        ensures { map declared_extension result.now ≡ self.now.extensions }
+    {
+        &self.extensions
     }
 
     /// The limits within which they stand.

@@ -3,9 +3,11 @@
 #![tactic(auto)]
 
 mod compiled;
+mod extension;
 mod set;
 mod table;
 
 pub use compiled::Compiled;
+pub use extension::Extension;
 pub use set::FILE_FIELD;
 pub use table::FileTable;

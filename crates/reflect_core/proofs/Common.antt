@@ -11,11 +11,11 @@ pub use Rattle.first_reach.specs.Carried.{carried, carried_from, reached, repeat
 pub use Rattle.first_reach.specs.declared.mode.Mode.{Mode}
 pub use Rattle.proto_compilation.specs.Compilation.{Compilation, bytes_at}
 pub use Rattle.proto_links.specs.Linked.{count_of, reach_of, Linked}
-pub use Rattle.reflect_core.specs.Answer.{Declares, Answer, IsAnswer, root_of, file, no_extensions, services, not_found, empty_request, no_extension, listed, nothing_asked, declared, not_declared, message, no_message, named, not_named}
+pub use Rattle.reflect_core.specs.Answer.{Declares, Answer, IsAnswer, root_of, file, extensions, services, not_found, empty_request, extended, not_extended, listed, nothing_asked, declared, not_declared, message, no_message, named, not_named}
 pub use Rattle.reflect_core.specs.Reply.{Asked, files_bytes, services_bytes, error_bytes, reply, contents_of, host_field}
 pub use Rattle.reflect_core.specs.Response.{IsAsked, root, IsResponse, replies, replies_to, trailer}
 pub use Rattle.reflect_core.specs.ResponseSteps.{AreReplyable, AreServicesFor, IsReplyable, IsRootWithin, asked_of, files_of, AreContentsLengths, HasContents, reply_size}
 pub use Rattle.reflect_requests.specs.Frames.{IsAllowed, ReadsBody, frame}
 pub use Rattle.reflect_requests.specs.ProgramFrames.{Reads, bytes_of}
-pub use Rattle.reflect_requests.specs.Request.{Ask, file_by_name, file_by_symbol, file_by_extension, extension_numbers, list_services, nothing, last_of, host_of, member_of, ReadsRequest}
+pub use Rattle.reflect_requests.specs.Request.{Ask, file_by_name, file_by_symbol, file_by_extension, extension_numbers, list_services, nothing, last_of, host_of, ReadsRequest}
 pub use Rattle.wire_format.specs.Field.{bytes_field}

@@ -1,10 +1,12 @@
-mod Common
-mod Declaring
-mod Constants
-mod ReadBounds
+mod AnsweringBody
 mod Carrying
+mod Common
+mod Constants
+mod Declaring
+mod Extending
+mod Numbering
+mod ReadBounds
 mod RepliesMore
 mod Short
-mod AnsweringBody
-pub mod OneResponse
 mod ShortReplies
+pub mod OneResponse

@@ -2,7 +2,9 @@
 use Rattle.reflect_core.proofs.Common.{◌≡◌, ◌∙◌, ◌++◌, sym, ℕ, ◌<◌, List, [], ◌∷◌, map, ap, refl, arith, Option, Some, None, length, Contains, flat_map, zip, AllZip, none-some, same_Some, carried, carried_from, reached, root_first, Mode, Compilation, reach_of, frame, Ask, Answer, Declares, IsAnswer, root_of, Asked, reply, IsAsked, IsResponse, replies, replies_to, root, trailer}
 use Rattle.proto_compilation.specs.Alike.{AreAlike}
 use Rattle.proto_compilation.specs.Sound.{IsSound}
+use Rattle.proto_compilation.proofs.Rising.{one_extension}
 use Rattle.proto_compilation.proofs.Within.{named_once}
+use Rattle.proto_compilation.specs.Extensions.{DeclaredExtension}
 use Rattle.proto_names.specs.Occurrences.{Occurrence}
 use Rattle.reflect_requests.proofs.FrameRows.{one_reading}
 use Rattle.reflect_requests.proofs.RequestRows.{one_ask, one_host}
@@ -20,12 +22,14 @@ pub root_inside : (c : Compilation) → IsSound c → (ask : Ask) (x : Answer) (
 root_inside c sound ask x r (answers.named name a n) at = omega (arith, same_Some a r at, n.0)
 root_inside c sound ask x r (answers.declared name o n) at =
     omega (arith, same_Some _ r at, sound.coherent.names.inside o n.declared, sound.coherent.indexed)
+root_inside c sound ask x r (answers.extended name n e is) at =
+    omega (arith, same_Some _ r at, (sound.coherent.extensions_within e is.declared).inside)
 root_inside c sound ask x r answer at = absurd (none-some r at)
 
--- the same files and services make the same reply
-reply_alike : (c d : Compilation) → c.files ≡ d.files → c.index.services ≡ d.index.services → (asked : Asked)
-    (carried : List ℕ) → reply c asked carried ≡ reply d asked carried
-reply_alike c d files services asked carried = grind (arith, files, services)
+-- the same files, services and extensions make the same reply
+reply_alike : (c d : Compilation) → c.files ≡ d.files → c.index.services ≡ d.index.services
+    → c.extensions ≡ d.extensions → (asked : Asked) (carried : List ℕ) → reply c asked carried ≡ reply d asked carried
+reply_alike c d files services extensions asked carried = grind (arith, files, services, extensions)
 
 module _ (c d : Compilation) (sound : IsSound c) (same : AreAlike c d) where
   back : (name : List ℕ) (o : Occurrence) → Declares d name o → Declares c name o
@@ -46,7 +50,14 @@ module _ (c d : Compilation) (sound : IsSound c) (same : AreAlike c d) where
   one_meaning ask x y (answers.not_declared name none) (answers.declared _ p m) = absurd (none p (back name p m))
   one_meaning ask x y (answers.message name o n k) (answers.no_message _ none) = absurd (none o (on name o n) k)
   one_meaning ask x y (answers.no_message name none) (answers.message _ p m k) = absurd (none p (back name p m) k)
-  one_meaning ask x y answers.no_extension answers.no_extension = refl
+  one_meaning ask x y (answers.extended name n e is) (answers.extended _ _ f has) =
+      ap (λ (e : DeclaredExtension). answers.file e.file)
+      (one_extension c.extensions sound.coherent.extensions_rise e f is.declared (rw (← same.extensions) at has.declared)
+      (is.message ∙ sym has.message) (is.numbered ∙ sym has.numbered))
+  one_meaning ask x y (answers.extended name n e is) (answers.not_extended _ _ none) =
+      absurd (none e (record { declared = rw same.extensions at is.declared; message = is.message; numbered = is.numbered }))
+  one_meaning ask x y (answers.not_extended name n none) (answers.extended _ _ f has) =
+      absurd (none f (record { declared = rw (← same.extensions) at has.declared; message = has.message; numbered = has.numbered }))
   one_meaning ask x y answers.listed answers.listed = refl
   one_meaning ask x y answers.nothing_asked answers.nothing_asked = refl
   one_meaning ask x y first second = refl
@@ -94,5 +105,5 @@ module _ (c d : Compilation) (sound : IsSound c) (same : AreAlike c d) where
       let lists = carried mode (reach_of d.links) (map root x.asked) in
       let all : replies mode c x.asked ≡ replies mode d y.asked =
       ap (replies_to c x.asked) (carried_alike mode [] x.messages x.asked x.requests)
-      ∙ (λ i. map (λ p. reply_alike c d same.files same.services p.0 p.1 i) (zip x.asked lists)) ∙ ap (replies mode d) asked in
+      ∙ (λ i. map (λ p. reply_alike c d same.files same.services same.extensions p.0 p.1 i) (zip x.asked lists)) ∙ ap (replies mode d) asked in
       x.spelled ∙ (λ i. flat_map (frame 0) (all i) ++ frame 128 (trailer (read.1 i))) ∙ sym y.spelled

@@ -1,8 +1,10 @@
 -- The bytes of a reply, by `ServerReflectionResponse` of `grpc.reflection.v1`, `reflection.proto`.
 use Rattle.std.specs.Prelude.{ℕ, List, [], ◌∷◌, ◌++◌, flat_map, codes}
 use Rattle.proto_compilation.specs.Compilation.{Compilation, bytes_at}
-use Rattle.reflect_core.specs.Answer.{Answer, file, no_extensions, services, not_found, empty_request}
+use Rattle.proto_compilation.specs.Extensions.{numbers_of}
+use Rattle.reflect_core.specs.Answer.{Answer, file, extensions, services, not_found, empty_request}
 use Rattle.wire_format.specs.Field.{number_field, bytes_field}
+use Rattle.wire_format.specs.Varint.{varint_bytes}
 
 -- a request of a stream: its message as it came, the host that it names, and what answers it
 pub record Asked : Type 0 where
@@ -23,6 +25,14 @@ files_bytes c files = flat_map (λ a. bytes_field 1 (bytes_at c.files a)) files
 abbrev pub services_bytes : Compilation → List ℕ
 services_bytes c = flat_map (λ name. bytes_field 1 (bytes_field 1 name)) c.index.services
 
+-- `ExtensionNumberResponse`: `base_type_name` = 1, and `extension_number` = 2, packed, left out where there is none
+abbrev pub packed : List ℕ → List ℕ
+packed [] = []
+packed (n ∷ ns) = bytes_field 2 (flat_map varint_bytes (n ∷ ns))
+
+abbrev pub extensions_bytes : Compilation → List ℕ → List ℕ
+extensions_bytes c name = bytes_field 1 name ++ packed (numbers_of c.extensions name)
+
 -- `ErrorResponse`: `error_code` = 1, `error_message` = 2
 abbrev pub error_bytes : ℕ → List ℕ → List ℕ
 error_bytes code message = number_field 1 code ++ bytes_field 2 message
@@ -32,16 +42,15 @@ error_bytes code message = number_field 1 code ++ bytes_field 2 message
 -- `list_services_response` = 6, `error_response` = 7
 abbrev pub member_of : Answer → ℕ
 member_of (file a) = 4
-member_of (no_extensions name) = 5
+member_of (extensions name) = 5
 member_of services = 6
 member_of not_found = 7
 member_of empty_request = 7
 
--- What the member holds. Of an `ExtensionNumberResponse` it is `base_type_name` = 1 alone; the codes are gRPC's
--- NOT_FOUND and INVALID_ARGUMENT.
+-- what the member holds; the codes are gRPC's NOT_FOUND and INVALID_ARGUMENT
 abbrev pub contents_of : Compilation → List ℕ → Answer → List ℕ
 contents_of c files (file a) = files_bytes c files
-contents_of c files (no_extensions name) = bytes_field 1 name
+contents_of c files (extensions name) = extensions_bytes c name
 contents_of c files services = services_bytes c
 contents_of c files not_found = error_bytes 5 (codes "not found")
 contents_of c files empty_request = error_bytes 3 (codes "empty request")

@@ -6,7 +6,7 @@ ghost use Rattle.std.specs.Option.{ForSome};
 ghost use Rattle.proto_links.specs.Linked.{count_of};
 ghost use Rattle.reflect_core.specs.Answer.{IsAnswer, root_of};
 ghost use Rattle.reflect_core.specs.ProgramAnswers.{answer_of};
-ghost use Rattle.reflect_requests.specs.Request.{extension_numbers, file_by_name, file_by_symbol};
+ghost use Rattle.reflect_requests.specs.Request.{extension_numbers, file_by_extension, file_by_name, file_by_symbol};
 ghost use Rattle.reflect_requests.specs.ProgramFrames.{ask_of};
 
 use proto_compilation::Compiled;
@@ -19,8 +19,8 @@ use reflect_requests::Ask;
 pub(crate) enum Answer<'b> {
     /// A file, and what it reaches.
     File(FileId),
-    /// The extensions of the message of this full name: files of proto3 declare none.
-    NoExtensions(&'b str),
+    /// The numbers of the extensions of the message of this full name.
+    Extensions(&'b str),
     /// The full names of all services.
     Services,
     /// Nothing has the name.
@@ -58,6 +58,20 @@ fn is_message(kind: NameKind) -> bool
     matches!(kind, NameKind::Message)
 }
 
+/// The file that declares the extension of this number, of the message of this full name.
+fn extending_file<'b>(compiled: &Compiled, message: &'b str, number: u32) -> Answer<'b>
+    ensures answer { IsAnswer compiled.now (file_by_extension message.now number) (answer_of result) }
+    ensures within { ForSome (root_of (answer_of result)) (λ a. a < count_of compiled.now.links) }
+{
+    compiled.is_sound();
+    for extension in compiled.extensions() {
+        if extension.number == number && extension.message.as_str() == message {
+            return Answer::File(extension.file);
+        }
+    }
+    Answer::NotFound
+}
+
 /// The extensions of the message of this full name.
 fn extensions_of<'b>(compiled: &Compiled, name: &'b str) -> Answer<'b>
     ensures answer { IsAnswer compiled.now (extension_numbers name.now) (answer_of result) }
@@ -65,7 +79,7 @@ fn extensions_of<'b>(compiled: &Compiled, name: &'b str) -> Answer<'b>
 {
     compiled.names().names_are_declared_once();
     match compiled.names().find(name) {
-        Some(defined) if is_message(defined.kind) => Answer::NoExtensions(name),
+        Some(defined) if is_message(defined.kind) => Answer::Extensions(name),
         _ => Answer::NotFound,
     }
 }
@@ -78,7 +92,10 @@ pub(crate) fn answer_to<'b>(compiled: &Compiled, ask: Ask<'b>) -> Answer<'b>
     match ask {
         Ask::FileByName(name) => named_file(compiled, name),
         Ask::FileBySymbol(symbol) => declaring_file(compiled, symbol),
-        Ask::FileByExtension => Answer::NotFound,
+        Ask::FileByExtension {
+            containing_type,
+            number,
+        } => extending_file(compiled, containing_type, number),
         Ask::ExtensionNumbers(name) => extensions_of(compiled, name),
         Ask::ListServices => Answer::Services,
         Ask::Nothing => Answer::EmptyRequest,

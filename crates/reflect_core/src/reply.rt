@@ -1,12 +1,14 @@
 //! The bytes of one reply (`reflection.proto`, `ServerReflectionResponse`).
 
-ghost use Rattle.std.specs.Prelude.{◌≡◌, ℕ, ◌+◌, ◌++◌, ◌<◌, ◌^◌, Contains, OnOk, length};
+ghost use Rattle.std.specs.Prelude.{◌≡◌, ℕ, ◌+◌, ◌++◌, ◌<◌, ◌^◌, Contains, OnOk, flat_map, length};
 ghost use Rattle.proto_links.specs.Linked.{count_of};
 ghost use Rattle.reflect_core.specs.ProgramAnswers.{answer_of};
-ghost use Rattle.reflect_core.specs.Reply.{contents_of, files_bytes, host_field, member_of, reply};
+ghost use Rattle.proto_compilation.specs.Extensions.{numbers_of};
+ghost use Rattle.reflect_core.specs.Reply.{contents_of, extensions_bytes, files_bytes, host_field, member_of, reply};
 ghost use Rattle.reflect_core.specs.ResponseSteps.{HasContents, IsReplyable, asked_of, reply_size};
 ghost use Rattle.reflect_requests.specs.Frames.{frame};
 ghost use Rattle.wire_format.specs.Field.{bytes_field};
+ghost use Rattle.wire_format.specs.Varint.{varint_bytes};
 
 use crate::answer::Answer;
 use crate::asked::Asked;
@@ -19,6 +21,9 @@ use wire_format::{FieldValue, field_len, put_field, put_varint, varint_len};
 const NOT_FOUND: &[u8] = b"\x08\x05\x12\x09not found";
 
 const EMPTY_REQUEST: &[u8] = b"\x08\x03\x12\x0Dempty request";
+
+/// The tag of `extension_number` of an `ExtensionNumberResponse`, which is packed.
+const NUMBERS_TAG: u64 = 2 * 8 + 2;
 
 /// What replies are made of: the compilation, and its services as a `ListServiceResponse`, which may be empty where no request
 /// asks for them.
@@ -59,6 +64,64 @@ impl Material<'_> {
         Ok(())
     }
 
+    /// How long the numbers of a message's extensions are as varints.
+    fn numbers_len(&self, message: &str) -> u64
+        requires { length (flat_map varint_bytes
+            (numbers_of self.now.compiled.now.extensions message.now)) < 2 ^ 32 }
+        ensures { result ≡ length (flat_map varint_bytes
+            (numbers_of self.now.compiled.now.extensions message.now)) }
+    {
+        let mut len = 0;
+        for extension in self.compiled.extensions() {
+            if extension.message.as_str() == message {
+                len += varint_len(u64::from(extension.number)) as u64;
+            }
+        }
+        len
+    }
+
+    /// Puts the numbers of a message's extensions as varints.
+    fn put_numbers(&self, out: &mut Vec<u8>, message: &str) -> Result<(), AllocError>
+        ensures { OnOk result (out.new.items ≡ out.old.items ++ flat_map varint_bytes
+            (numbers_of self.now.compiled.now.extensions message.now)) }
+    {
+        for extension in self.compiled.extensions() {
+            if extension.message.as_str() == message {
+                put_varint(out, u64::from(extension.number))?;
+            }
+        }
+        Ok(())
+    }
+
+    /// How long an `ExtensionNumberResponse` is.
+    fn extensions_len(&self, message: &str) -> u64
+        requires { length (extensions_bytes self.now.compiled.now message.now) < 2 ^ 32 }
+        ensures { result ≡ length (extensions_bytes self.now.compiled.now message.now) }
+    {
+        let name = field_len(1, &FieldValue::Delimited(message.as_bytes()));
+        match self.numbers_len(message) {
+            0 => name,
+            len => name + (varint_len(NUMBERS_TAG) + varint_len(len)) as u64 + len,
+        }
+    }
+
+    /// Puts an `ExtensionNumberResponse`: no numbers, where there is none.
+    fn put_extensions(&self, out: &mut Vec<u8>, message: &str) -> Result<(), AllocError>
+        requires { length (extensions_bytes self.now.compiled.now message.now) < 2 ^ 32 }
+        ensures { OnOk result (out.new.items ≡ out.old.items
+            ++ extensions_bytes self.now.compiled.now message.now) }
+    {
+        put_field(out, 1, &FieldValue::Delimited(message.as_bytes()))?;
+        match self.numbers_len(message) {
+            0 => Ok(()),
+            len => {
+                put_varint(out, NUMBERS_TAG)?;
+                put_varint(out, len)?;
+                self.put_numbers(out, message)
+            }
+        }
+    }
+
     /// How long is what the member of a reply holds.
     pub(crate) fn contents_len(&self, answer: Answer, files: &[FileId]) -> u64
         requires { HasContents self.now.compiled.now self.now.services.now (answer_of answer)
@@ -68,7 +131,7 @@ impl Material<'_> {
     {
         match answer {
             Answer::File(_) => self.files_len(files),
-            Answer::NoExtensions(name) => field_len(1, &FieldValue::Delimited(name.as_bytes())),
+            Answer::Extensions(name) => self.extensions_len(name),
             Answer::Services => self.services.len() as u64,
             Answer::NotFound => NOT_FOUND.len() as u64,
             Answer::EmptyRequest => EMPTY_REQUEST.len() as u64,
@@ -88,9 +151,7 @@ impl Material<'_> {
     {
         match answer {
             Answer::File(_) => self.put_files(out, files),
-            Answer::NoExtensions(name) => {
-                put_field(out, 1, &FieldValue::Delimited(name.as_bytes()))
-            }
+            Answer::Extensions(name) => self.put_extensions(out, name),
             Answer::Services => out.extend_from_slice(self.services),
             Answer::NotFound => out.extend_from_slice(NOT_FOUND),
             Answer::EmptyRequest => out.extend_from_slice(EMPTY_REQUEST),
@@ -159,7 +220,7 @@ fn member(answer: Answer) -> u32
 {
     match answer {
         Answer::File(_) => 4,
-        Answer::NoExtensions(_) => 5,
+        Answer::Extensions(_) => 5,
         Answer::Services => 6,
         Answer::NotFound | Answer::EmptyRequest => 7,
     }

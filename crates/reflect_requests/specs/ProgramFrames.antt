@@ -11,7 +11,7 @@ use Rattle.reflect_requests.specs.declared.request.Ask.TheVariants as ask
 abbrev pub ask_of : rust.Ask → Ask
 ask_of (ask.FileByName name) = file_by_name name.now
 ask_of (ask.FileBySymbol symbol) = file_by_symbol symbol.now
-ask_of ask.FileByExtension = file_by_extension
+ask_of (ask.FileByExtension containing_type number) = file_by_extension containing_type.now number
 ask_of (ask.ExtensionNumbers name) = extension_numbers name.now
 ask_of ask.ListServices = list_services
 ask_of ask.Nothing = nothing

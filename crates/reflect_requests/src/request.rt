@@ -1,10 +1,10 @@
 //! Requests of a reflection stream: what a message asks for.
 
-ghost use Rattle.std.specs.Prelude.{◌≡◌, ℕ, Err, IfErr, IfOk, IsUtf8, List, OnErr, OnOk};
-ghost use Rattle.reflect_requests.specs.Request.{IsContainingTypeUtf8, IsExtensionRequest, IsWellFormed, ReadsRequest};
+ghost use Rattle.std.specs.Prelude.{◌≡◌, ℕ, Err, IfErr, IfOk, IsUtf8, List, OnErr, OnOk, option_map};
+ghost use Rattle.reflect_requests.specs.Request.{IsContainingTypeUtf8, IsExtensionRequest, IsWellFormed, ReadsRequest, containing_type_of, extension_number_of};
 ghost use Rattle.reflect_requests.specs.ProgramFrames.{ask_of};
 ghost use Rattle.reflect_requests.specs.Request as definition;
-ghost use Rattle.reflect_requests.specs.RequestSteps.{Says};
+ghost use Rattle.reflect_requests.specs.RequestSteps.{AsksExtension, Says};
 ghost use Rattle.wire_format.specs.ProgramFields.{field_of};
 ghost use Rattle.wire_format.specs.declared.reading.WireError.TheVariants as errors;
 
@@ -25,8 +25,11 @@ pub enum Ask<'b> {
     FileByName(&'b str),
     /// The file that declares this full name.
     FileBySymbol(&'b str),
-    /// The file that declares an extension.
-    FileByExtension,
+    /// The file that declares the extension of this number, of the message with this full name.
+    FileByExtension {
+        containing_type: &'b str,
+        number: u32,
+    },
     /// The numbers of the extensions of the message with this full name.
     ExtensionNumbers(&'b str),
     /// The full names of all services.
@@ -51,29 +54,49 @@ fn text(bytes: &[u8]) -> Result<&str, WireError>
     std::str::from_utf8(bytes).ok().ok_or(WireError::Malformed)
 }
 
-/// Tests a field of an `ExtensionRequest`: its only string is `containing_type`.
-fn check_containing_type(field: &Field) -> Result<(), WireError>
+/// The `containing_type` that a field of an `ExtensionRequest` gives: its only string.
+fn containing_type<'b>(field: &Field<'b>) -> Result<Option<&'b str>, WireError>
+    ensures given { IfOk result (λ text. option_map (λ t. t.now) text
+        ≡ containing_type_of (field_of field.now)) }
     ensures utf8 { OnOk result (IsContainingTypeUtf8 (field_of field.now)) }
     ensures other { OnErr result (¬ IsContainingTypeUtf8 (field_of field.now)) }
 {
-    if let FieldValue::Delimited(bytes) = field.value {
-        if field.number == 1 {
-            text(bytes)?;
-        }
+    match field.value {
+        FieldValue::Delimited(bytes) if field.number == 1 => Ok(Some(text(bytes)?)),
+        _ => Ok(None),
     }
-    Ok(())
 }
 
-/// Tests an `ExtensionRequest`.
-fn check_extension(alloc: Global, message: &[u8]) -> Result<(), WireError>
-    ensures well_formed { OnOk result (IsExtensionRequest message.now) }
+/// The `extension_number` that a field of an `ExtensionRequest` gives: the lower 32 bits of its number.
+fn extension_number(field: &Field) -> Option<u32>
+    ensures { result ≡ extension_number_of (field_of field.now) }
+{
+    match field.value {
+        FieldValue::Varint(value) if field.number == 2 => Some((value % 4_294_967_296) as u32),
+        _ => None,
+    }
+}
+
+/// Reads an `ExtensionRequest`. Of each of its fields the last counts.
+fn read_extension<'b>(alloc: Global, message: &'b [u8]) -> Result<Ask<'b>, WireError>
+    ensures asks { IfOk result (λ asked. AsksExtension message.now (ask_of asked)) }
     ensures malformed { result ≡ Err errors.Malformed → ¬ IsExtensionRequest message.now }
 {
     let fields = read_fields(alloc, message)?;
+    let mut name = "";
+    let mut number = 0;
     for field in &fields {
-        check_containing_type(field)?;
+        if let Some(text) = containing_type(field)? {
+            name = text;
+        }
+        if let Some(value) = extension_number(field) {
+            number = value;
+        }
     }
-    Ok(())
+    Ok(Ask::FileByExtension {
+        containing_type: name,
+        number,
+    })
 }
 
 /// What a field says, by its number in `ServerReflectionRequest`.
@@ -88,10 +111,7 @@ fn said_by<'b>(alloc: Global, field: &Field<'b>) -> Result<Said<'b>, WireError>
         1 => Ok(Said::Host(text(bytes)?)),
         3 => Ok(Said::Member(Ask::FileByName(text(bytes)?))),
         4 => Ok(Said::Member(Ask::FileBySymbol(text(bytes)?))),
-        5 => {
-            check_extension(alloc, bytes)?;
-            Ok(Said::Member(Ask::FileByExtension))
-        }
+        5 => Ok(Said::Member(read_extension(alloc, bytes)?)),
         6 => Ok(Said::Member(Ask::ExtensionNumbers(text(bytes)?))),
         7 => {
             text(bytes)?;

@@ -1,8 +1,5 @@
-use Rattle.reflect_core.proofs.Common.{no_extension, listed, nothing_asked}
+use Rattle.reflect_core.proofs.Common.{listed, nothing_asked}
 use Rattle.reflect_core.proofs.answer.answer_to.Goals as goal
-
-pub returns-in-FileByExtension-clause-answer : goal.returns-in-FileByExtension-clause-answer
-returns-in-FileByExtension-clause-answer c = rw c.in-FileByExtension.is no_extension
 
 pub returns-in-ListServices-clause-answer : goal.returns-in-ListServices-clause-answer
 returns-in-ListServices-clause-answer c = rw c.in-ListServices.is listed

@@ -1,0 +1,7 @@
+pub mod Elements
+pub mod Heads
+pub mod Says
+pub mod SaysSteps
+pub mod SetFaults
+pub mod SetSteps
+pub mod Sets
