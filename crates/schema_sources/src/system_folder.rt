@@ -3,11 +3,13 @@
 ghost use Rattle.std.specs.Prelude.{IfOk, None, map, string_bytes};
 ghost use Rattle.source_folder.specs.Folder.{names_of};
 ghost use Rattle.proto_base.specs.NameOrder.{NamesRise};
+ghost use Rattle.schema_sources.specs.Texts.{unknown};
 
 use crate::folder::SourceFolder;
 use crate::places::Elsewhere;
 use proto_base::Limits;
 use share_work::Plan;
+use skipped_sources::CustomOptions;
 use source_folder::{
     FolderFault, FolderTrouble, NamedText, Reason, TroubledEntry, listed_text, read_source,
     source_names, source_path, sources_in,
@@ -109,6 +111,8 @@ pub struct SystemFolder<'a, R> {
     pub includes: &'a [&'a str],
     /// The names of the sources, where not all that lie below the root are sources.
     pub files: &'a [&'a str],
+    /// What is done about custom options.
+    pub custom_options: CustomOptions,
 }
 
 impl<R: Files + AllocGlobal> SystemFolder<'_, R> {
@@ -172,7 +176,7 @@ impl<R: Files + AllocGlobal> Shelf for SystemFolder<'_, R> {
 }
 
 impl<R: Files + AllocGlobal> SourceFolder for SystemFolder<'_, R> {
-    ghost sources = { λ _. None };
+    ghost sources = { λ folder. unknown folder.custom_options };
 
     fn names(&self) -> Result<Vec<String>, FolderFault> {
         Ok(self.given_names()?)
@@ -195,6 +199,10 @@ impl<R: Files + AllocGlobal> SourceFolder for SystemFolder<'_, R> {
 
     fn has_shelf(&self) -> bool {
         !self.includes.is_empty() || !self.files.is_empty()
+    }
+
+    fn custom_options(&self) -> CustomOptions {
+        self.custom_options
     }
 }
 
