@@ -9,6 +9,8 @@ use Rattle.clap.specs.declared.parser.matches.Found.{Found}
 use Rattle.first_reach.specs.declared.mode.Mode.{Mode}
 use Rattle.first_reach.specs.declared.mode.Mode.TheVariants as mode
 use Rattle.share_work.specs.declared.plan.Plan.{Plan}
+use Rattle.skipped_sources.specs.declared.options.CustomOptions.{CustomOptions}
+use Rattle.skipped_sources.specs.declared.options.CustomOptions.TheVariants as options
 use Rattle.schema_command_line.specs.declared.task.Selection.{Selection}
 use Rattle.schema_command_line.specs.declared.task.Task.{Task}
 use Rattle.schema_command_line.specs.declared.task.Task.TheVariants as task
@@ -20,11 +22,17 @@ value_of found name = unwrap_or (first_value found name) []
 abbrev pub values_of : Found → List ℕ → List (List ℕ)
 values_of found name = unwrap_or (option_map raw_values (matched_of found name)) []
 
--- the root, the folders of --include and the named files are those of the words
+-- custom options are skipped where the words have --skip-custom-options, and else refused
+pub record AreCustomOptions (found : Found) (o : CustomOptions) : Type 0 where
+  pub skipped : one_text found (codes "skip-custom-options") ≡ Some (codes "true") → o ≡ options.Skip
+  pub refused : one_text found (codes "skip-custom-options") ≡ Some (codes "false") → o ≡ options.Refuse
+
+-- the root, the folders of --include, the named files and what is done about custom options are those of the words
 pub record IsSelection (found : Found) (selection : Selection) : Type 0 where
   pub root : selection.root.now ≡ value_of found (codes "root")
   pub includes : map (λ s. s.now) selection.includes.items ≡ values_of found (codes "include")
   pub files : map (λ s. s.now) selection.files.items ≡ values_of found (codes "files")
+  pub custom_options : AreCustomOptions found selection.custom_options
 
 -- an argument is this number, in decimal digits
 abbrev pub HasNumber : Found → List ℕ → ℕ → Type 0

@@ -3,7 +3,7 @@
 ghost use Rattle.std.specs.Prelude.{◌≡◌, IfOk, IfSome, codes, map, option_map};
 ghost use Rattle.clap.specs.Matches.{first_value, found_of};
 ghost use Rattle.clap.specs.declared.parser.matches.ArgMatches.{ArgMatches};
-ghost use Rattle.schema_command_line.specs.Tasks.{AreConnections, IsAsked, IsMode, IsPlan, IsSelection, IsTaskNamed, file_of, values_of};
+ghost use Rattle.schema_command_line.specs.Tasks.{AreConnections, AreCustomOptions, IsAsked, IsMode, IsPlan, IsSelection, IsTaskNamed, file_of, values_of};
 
 use crate::words::whole_command;
 use clap::error::ErrorKind;
@@ -11,6 +11,7 @@ use clap::{ArgMatches, Error};
 use first_reach::Mode;
 use schema_explanation::Topic;
 use share_work::Plan;
+use skipped_sources::CustomOptions;
 use std::alloc::{AllocError, Global};
 
 /// Which sources a run is over.
@@ -22,6 +23,7 @@ pub struct Selection<'a> {
     pub includes: Vec<&'a str>,
     /// The sources that are named; none where all below the root are meant.
     pub files: Vec<&'a str>,
+    pub custom_options: CustomOptions,
 }
 
 /// What one run is to do.
@@ -74,6 +76,16 @@ fn mode_of(matches: &ArgMatches<'_>) -> Mode
     }
 }
 
+fn custom_options_of(matches: &ArgMatches<'_>) -> CustomOptions
+    ensures { AreCustomOptions (found_of matches.now) result }
+{
+    if matches.get_flag("skip-custom-options") {
+        CustomOptions::Skip
+    } else {
+        CustomOptions::Refuse
+    }
+}
+
 /// The plan that the words ask for. The parser of the words lets no others through than there are plans.
 fn plan_of(matches: &ArgMatches<'_>) -> Plan
     ensures { IsPlan (found_of matches.now) result }
@@ -105,6 +117,7 @@ fn selection_of<'a>(alloc: Global, matches: &ArgMatches<'a>) -> Result<Selection
         root: matches.get_str("root").unwrap_or(""),
         includes: values_of(alloc, matches, "include")?,
         files: values_of(alloc, matches, "files")?,
+        custom_options: custom_options_of(matches),
     })
 }
 

@@ -31,6 +31,15 @@ fn include_argument<'a>(alloc: Global) -> Arg<'a> {
         )
 }
 
+fn skip_argument<'a>(alloc: Global) -> Arg<'a> {
+    Arg::new(alloc, "skip-custom-options")
+        .long("skip-custom-options")
+        .action(ArgAction::SetTrue)
+        .help(
+            "take sources as if custom options, extensions and imports of what is not there were not in them",
+        )
+}
+
 fn files_argument<'a>(alloc: Global) -> Arg<'a> {
     Arg::new(alloc, "files")
         .value_name("FILE")
@@ -76,6 +85,7 @@ fn source_command<'a>(
         .about(about)
         .arg(root_argument(alloc));
     let command = with_argument(command, include_argument(alloc));
+    let command = with_argument(command, skip_argument(alloc));
     let workers = count_argument(alloc, "workers", 64, "4", workers_help);
     let command = with_argument(command, workers);
     let cut = count_argument(alloc, "cut", 4096, "16", cut_help);

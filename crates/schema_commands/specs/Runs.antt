@@ -76,7 +76,7 @@ abbrev pub IsCompileRun : {A B : Type 0} → KnownSources → Option A → Write
 IsCompileRun known file writes writes' done =
     (limits : Limits) × AreStandard limits
     × (IsErrAnd done (λ f. IsToldOfFolder limits known f × (writes' ≡ writes))
-    ⊎ ((texts : List NamedText) × AreTextsOf known texts × (set : List ℕ) × IsSetOfTexts limits texts set
+    ⊎ ((texts : List NamedText) × AreTextsOf limits known texts × (set : List ℕ) × IsSetOfTexts limits texts set
     × IsSetRun file writes writes' set done))
 
 -- `answer`: the exchange over what the folder's texts are compiled to; or their first fault, and nothing read or

@@ -15,6 +15,7 @@ use Rattle.schema_failure.specs.declared.failure.ExitStatus.TheVariants as statu
 use Rattle.schema_failure.specs.declared.failure.Verdict.{Verdict}
 use Rattle.schema_failure.specs.declared.failure.Verdict.TheVariants as verdict
 use Rattle.schema_serve.specs.Runs.{IsServeRun}
+use Rattle.schema_sources.specs.Texts.{unknown}
 
 -- a command that gives no verdict ended so, and where it came to its end the sources have no fault
 abbrev pub EndsSound : (Result (Unit {0}) Failure → Type 0) → Result Verdict Failure → Type 0
@@ -29,13 +30,13 @@ sound_of (Err failure) = Err failure
 -- what a task read and wrote, by how it ended
 abbrev pub IsPerformed : Task → Reads → Reads → Writes → Writes → Result Verdict Failure → Type 0
 IsPerformed (task.Compile selection plan file) reads reads' writes writes' =
-    EndsSound (λ done. IsCompileRun None file writes writes' done)
+    EndsSound (λ done. IsCompileRun (unknown selection.custom_options) file writes writes' done)
 IsPerformed (task.Check selection plan) reads reads' writes writes' =
-    λ done. IsFolderCheck None selection.root.now writes writes' done
+    λ done. IsFolderCheck (unknown selection.custom_options) selection.root.now writes writes' done
 IsPerformed (task.Serve selection listen plan mode connections) reads reads' writes writes' =
-    EndsSound (λ done. IsServeRun None listen.now connections writes writes' done)
+    EndsSound (λ done. IsServeRun (unknown selection.custom_options) listen.now connections writes writes' done)
 IsPerformed (task.Answer selection plan mode) reads reads' writes writes' =
-    EndsSound (λ done. IsAnswerRun None mode reads reads' writes writes' done)
+    EndsSound (λ done. IsAnswerRun (unknown selection.custom_options) mode reads reads' writes writes' done)
 IsPerformed (task.Describe name) reads reads' writes writes' =
     EndsSound (λ done. IsDescribeRun name.now reads reads' writes writes' done)
 IsPerformed (task.Explain topic) reads reads' writes writes' =

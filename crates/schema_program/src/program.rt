@@ -25,12 +25,15 @@ use std::thread::Threads;
 use std::time::Clock;
 
 /// The folders and files that the words select.
-fn folder_of<'a, R>(rt: &'a R, selection: &'a Selection<'a>) -> SystemFolder<'a, R> {
+fn folder_of<'a, R>(rt: &'a R, selection: &'a Selection<'a>) -> SystemFolder<'a, R>
+    ensures { result.custom_options ≡ selection.now.custom_options }
+{
     SystemFolder {
         rt,
         root: selection.root,
         includes: &selection.includes,
         files: &selection.files,
+        custom_options: selection.custom_options,
     }
 }
 

@@ -1,0 +1,3 @@
+pub mod Blanking
+mod Losses
+mod Naming

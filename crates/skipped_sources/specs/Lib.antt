@@ -1,0 +1,4 @@
+pub mod Losing
+pub mod Lost
+pub mod Options
+pub mod Shelves

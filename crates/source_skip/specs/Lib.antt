@@ -1,0 +1,4 @@
+pub mod Languages
+pub mod Pieces
+pub mod Shapes
+pub mod Skipped
