@@ -1,0 +1,4 @@
+mod Scans
+mod Behind
+mod Closing
+mod Going

@@ -1,0 +1,7 @@
+pub mod Pieces
+pub mod Shapes
+pub mod Skipped
+pub mod Languages
+pub mod ProgramPieces
+pub mod ProgramTokens
+pub mod ProgramSettings
