@@ -14,7 +14,7 @@ pub data IsTail : List Spelled → List Spelled → Type 0 where
   here : {ts : List Spelled} → IsTail ts ts
   later : {t : Spelled} {ts us : List Spelled} → IsTail us ts → IsTail us (t ∷ ts)
 
-tail_tail : (us ts ss : List Spelled) → IsTail us ts → IsTail ts ss → IsTail us ss
+pub tail_tail : (us ts ss : List Spelled) → IsTail us ts → IsTail ts ss → IsTail us ss
 tail_tail us ts _ k here = k
 tail_tail us ts (s ∷ ss) k (later l) = later (tail_tail us ts ss k l)
 

@@ -2,3 +2,5 @@ mod Scans
 mod Behind
 mod Closing
 mod Going
+mod Entries
+mod Fronts

@@ -5,3 +5,4 @@ pub mod Languages
 pub mod ProgramPieces
 pub mod ProgramTokens
 pub mod ProgramSettings
+pub mod ProgramFronts

@@ -2,6 +2,7 @@
 #![tactic(auto)]
 
 mod braces;
+mod gone;
 mod pieces;
 mod settings;
 mod shapes;

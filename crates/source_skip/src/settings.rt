@@ -97,8 +97,22 @@ pub(crate) fn push_spans(spans: &mut Vec<Span>, tokens: &[Token]) -> Result<(), 
     Ok(())
 }
 
-/// Adds the spans of what goes of settings of which one stays. Of one that goes the comma before it goes along; of one that
-/// stays this comma goes where none before it stays. The bracket stays.
+/// Adds the spans of what goes of a setting, with or without what stands before it.
+fn push_entry(spans: &mut Vec<Span>, entry: &Entry, separated: bool) -> Result<(), AllocError>
+    ensures { OnOk result (spans.new.items
+        ≡ spans.old.items ++ map span_of (spec.gone_of separated (entry_of entry.now))) }
+{
+    if separated {
+        spans.push(entry.separator.span)?;
+    }
+    if entry.goes {
+        push_spans(spans, entry.setting)?;
+    }
+    Ok(())
+}
+
+/// Adds the spans of what goes of settings of which one stays. With one that goes the comma before it goes; of one that stays
+/// this comma goes where none before it stays. The bracket stays.
 pub(crate) fn push_gone(spans: &mut Vec<Span>, entries: &[Entry]) -> Result<(), AllocError>
     ensures { OnOk result (spans.new.items
         ≡ spans.old.items ++ map span_of (spec.gone_within (map entry_of entries.now))) }
@@ -106,18 +120,11 @@ pub(crate) fn push_gone(spans: &mut Vec<Span>, entries: &[Entry]) -> Result<(), 
     let Some((first, later)) = entries.split_first() else {
         return Ok(());
     };
-    if first.goes {
-        push_spans(spans, first.setting)?;
-    }
+    push_entry(spans, first, false)?;
     let mut stands = !first.goes;
     for entry in later {
-        if entry.goes || !stands {
-            spans.push(entry.separator.span)?;
-        }
-        if entry.goes {
-            push_spans(spans, entry.setting)?;
-        }
-        stands = stands || !entry.goes;
+        push_entry(spans, entry, entry.goes | !stands)?;
+        stands |= !entry.goes;
     }
     Ok(())
 }

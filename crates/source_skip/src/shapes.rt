@@ -18,7 +18,7 @@ pub(crate) fn symbol<'t, 's>(tokens: &'t [Token<'s>], symbol: u8) -> Option<&'t 
     token.is_symbol(symbol).then_some(rest)
 }
 
-fn word<'t, 's>(tokens: &'t [Token<'s>], word: &[u8]) -> Option<&'t [Token<'s>]>
+pub(crate) fn word<'t, 's>(tokens: &'t [Token<'s>], word: &[u8]) -> Option<&'t [Token<'s>]>
     ensures { option_map (λ rest. map spelled rest.now) result
         ≡ behind (One (OneOf (word.now ∷ []))) (map spelled tokens.now) }
 {
@@ -34,7 +34,7 @@ fn identifier<'t, 's>(tokens: &'t [Token<'s>]) -> Option<&'t [Token<'s>]>
     token.is_identifier().then_some(rest)
 }
 
-fn text<'t, 's>(tokens: &'t [Token<'s>]) -> Option<&'t [Token<'s>]>
+pub(crate) fn text<'t, 's>(tokens: &'t [Token<'s>]) -> Option<&'t [Token<'s>]>
     ensures { option_map (λ rest. map spelled rest.now) result
         ≡ behind (One AnyString) (map spelled tokens.now) }
 {
@@ -266,12 +266,4 @@ pub(crate) fn statement<'t, 's>(
         Some(rest) => Some(rest),
         None => extend_statement(tokens, closes),
     }
-}
-
-/// An import that says `weak`.
-pub(crate) fn weak<'t, 's>(tokens: &'t [Token<'s>]) -> Option<&'t [Token<'s>]>
-    ensures { option_map (λ rest. map spelled rest.now) result
-        ≡ behind spec.weak (map spelled tokens.now) }
-{
-    text(word(word(tokens, b"import")?, b"weak")?)
 }

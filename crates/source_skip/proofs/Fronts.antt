@@ -1,0 +1,104 @@
+-- What stands at the front of tokens, one front after the other.
+use Rattle.std.specs.Prelude.{◌≡◌, ℕ, zero, suc, ◌+◌, ◌≤◌, ◌<◌, Bool, true, false, cond, not, ◌||◌, List, [], ◌∷◌, ◌++◌, map, length, drop, Option, None, Some, option_map, option_and_then, unwrap_or}
+use Rattle.std.proofs.Common.{refl, arith, sym, ap, ◌∙◌, append_assoc}
+use Rattle.std.specs.Option.{option_or}
+use Rattle.proto_tokens.specs.Token.{Spelled}
+use Rattle.source_skip.specs.ProgramTokens.{IsClosing}
+use Rattle.source_skip.specs.Shapes.{Shape, behind, is_symbol, statement, symbol, weak}
+use Rattle.source_skip.specs.Skipped.{Brackets, Entry, Front, brackets, brackets_front, entry_of, front_of, goes, goes_from, start_front, statement_front, token_front, weak_front, with_entry}
+use Rattle.source_skip.proofs.Behind.{IsTail, here, later, ShorterOf, TailOf, TakesOne, behind_shorter, behind_tail, closing_tail, tail_tail, tail_within}
+use Rattle.source_skip.proofs.Entries.{EntryTail, entry_tail}
+
+-- ---- what stands behind a front is a shorter tail
+
+pub record IsRest (us ts : List Spelled) : Type 0 where
+  pub tail : IsTail us ts
+  pub shorter : length us < length ts
+
+abbrev FrontRest : List Spelled → Option Front → Type 0
+FrontRest ts None = Unit {0}
+FrontRest ts (Some f) = IsRest f.rest ts
+
+abbrev BracketsRest : List Spelled → Option Brackets → Type 0
+BracketsRest ts None = Unit {0}
+BracketsRest ts (Some b) = IsRest b.rest ts
+
+module _ (ts : List Spelled) where
+  front_or : (a b : Option Front) → FrontRest ts a → FrontRest ts b → FrontRest ts (option_or a b)
+  front_or None b k l = l
+  front_or (Some f) b k l = k
+
+  front_cond : (start : Bool) (a : Option Front) → FrontRest ts a → FrontRest ts (cond start a None)
+  front_cond true a k = k
+  front_cond false a k = tt
+
+  front_by : (f : List Spelled → Front) (o : Option (List Spelled)) → TailOf ts o → ShorterOf ts o
+      → ((us : List Spelled) → (f us).rest ≡ us) → FrontRest ts (option_map f o)
+  front_by f None k l e = tt
+  front_by f (Some us) k l e = rw (e us) (record { tail = k; shorter = l })
+
+  front_of_brackets : (f : Brackets → Front) (o : Option Brackets) → BracketsRest ts o
+      → ((b : Brackets) → (f b).rest ≡ b.rest) → FrontRest ts (option_map f o)
+  front_of_brackets f None k e = tt
+  front_of_brackets f (Some b) k e = rw (e b) k
+
+rest_rest : (us vs ts : List Spelled) → IsTail us vs → IsRest vs ts → IsRest us ts
+rest_rest us vs ts k r = record {
+  tail = tail_tail us vs ts k r.tail;
+  shorter = omega (arith, tail_within us vs k, r.shorter);
+}
+
+module _ (ts : List Spelled) (e : Entry) (r : IsRest e.rest ts) where
+  close_by : (o : Option (List Spelled)) → TailOf e.rest o
+      → BracketsRest ts (option_map (λ rest. record { entries = e ∷ []; rest = rest }) o)
+  close_by None k = tt
+  close_by (Some us) k = rest_rest us e.rest ts k r
+
+  more_by : (o : Option Brackets) → BracketsRest e.rest o
+      → BracketsRest ts (option_map (λ b. record { entries = e ∷ b.entries; rest = b.rest }) o)
+  more_by None k = tt
+  more_by (Some b) k = rest_rest b.rest e.rest ts k.tail r
+
+  brackets_or : (a b : Option Brackets) → BracketsRest ts a → BracketsRest ts b → BracketsRest ts (option_or a b)
+  brackets_or None b k l = l
+  brackets_or (Some c) b k l = k
+
+  with_entry_rest : (more : Option Brackets) → BracketsRest e.rest more → BracketsRest ts (with_entry e more)
+  with_entry_rest more k = brackets_or
+      (option_map (λ rest. record { entries = e ∷ []; rest = rest }) (behind (symbol "]") e.rest))
+      (option_map (λ b. record { entries = e ∷ b.entries; rest = b.rest }) more)
+      (close_by (behind (symbol "]") e.rest) (behind_tail (symbol "]") e.rest)) (more_by more k)
+
+entry_then : (most : ℕ) (t : Spelled) (ts : List Spelled) (o : Option Entry) → EntryTail ts o
+    → ((us : List Spelled) → BracketsRest us (brackets most 44 us))
+    → BracketsRest (t ∷ ts) (option_and_then (λ e. with_entry e (brackets most 44 e.rest)) o)
+entry_then most t ts None k r = tt
+entry_then most t ts (Some e) k r = with_entry_rest (t ∷ ts) e
+    (record { tail = later k; shorter = omega (arith, tail_within e.rest ts k) }) (brackets most 44 e.rest) (r e.rest)
+
+cond_rest : (ts : List Spelled) (b : Bool) (o : Option Brackets) → BracketsRest ts o → BracketsRest ts (cond b o None)
+cond_rest ts true o k = k
+cond_rest ts false o k = tt
+
+brackets_rest : (most mark : ℕ) (ts : List Spelled) → BracketsRest ts (brackets most mark ts)
+brackets_rest zero mark ts = tt
+brackets_rest (suc most) mark [] = tt
+brackets_rest (suc most) mark (t ∷ ts) = cond_rest (t ∷ ts) (is_symbol mark t)
+    (option_and_then (λ e. with_entry e (brackets most 44 e.rest)) (entry_of t ts))
+    (entry_then most t ts (entry_of t ts) (entry_tail t ts) (brackets_rest most 44))
+
+token_rest : (ts : List Spelled) → FrontRest ts (token_front ts)
+token_rest [] = tt
+token_rest (t ∷ ts) = record { tail = later here; shorter = omega arith }
+
+pub front_rest : (start : Bool) (ts : List Spelled) → FrontRest ts (front_of start ts)
+front_rest start ts = front_or ts (start_front start ts) (option_or (brackets_front ts) (token_front ts))
+    (front_cond ts start (option_or (statement_front ts) (weak_front ts))
+    (front_or ts (statement_front ts) (weak_front ts)
+    (front_by ts _ (behind statement ts) (behind_tail statement ts) (behind_shorter statement (tt, tt) ts) (λ us. refl))
+    (front_by ts _ (behind weak ts) (behind_tail weak ts) (behind_shorter weak tt ts) (λ us. refl))))
+    (front_or ts (brackets_front ts) (token_front ts)
+    (front_of_brackets ts _ (brackets (length ts) 91 ts) (brackets_rest (length ts) 91 ts) (λ b. refl)) (token_rest ts))
+
+pub rest_front : (start : Bool) (ts : List Spelled) (f : Front) → Some f ≡ front_of start ts → IsRest f.rest ts
+rest_front start ts f h = rw (sym h) at (front_rest start ts)
