@@ -1,9 +1,13 @@
 -- What stands at the front of tokens, one front after the other.
 use Rattle.std.specs.Prelude.{◌≡◌, ℕ, zero, suc, ◌+◌, ◌≤◌, ◌<◌, Bool, true, false, cond, not, ◌||◌, List, [], ◌∷◌, ◌++◌, map, length, drop, Option, None, Some, option_map, option_and_then, unwrap_or}
-use Rattle.std.proofs.Common.{refl, arith, sym, ap, ◌∙◌, append_assoc}
-use Rattle.std.specs.Option.{option_or}
+use Rattle.std.proofs.Common.{refl, arith, sym, ap, ◌∙◌, append_assoc, append-nil}
+use Rattle.std.proofs.lemmas.List.{length-map, map-append}
+use Rattle.std.specs.Option.{option_map_or, option_or}
 use Rattle.proto_tokens.specs.Token.{Spelled}
-use Rattle.source_skip.specs.ProgramTokens.{IsClosing}
+use Rattle.source_skip.specs.ProgramFronts.{front_of as spelled_front}
+use Rattle.source_skip.specs.ProgramTokens.{IsClosing, span_of, spelled}
+use Rattle.source_skip.specs.declared.gone.Front as rust
+use Rattle.source_skip.specs.declared.token.Span.{Span}
 use Rattle.source_skip.specs.Shapes.{Shape, behind, is_symbol, statement, symbol, weak}
 use Rattle.source_skip.specs.Skipped.{Brackets, Entry, Front, brackets, brackets_front, entry_of, front_of, goes, goes_from, start_front, statement_front, token_front, weak_front, with_entry}
 use Rattle.source_skip.proofs.Behind.{IsTail, here, later, ShorterOf, TailOf, TakesOne, behind_shorter, behind_tail, closing_tail, tail_tail, tail_within}
@@ -102,3 +106,81 @@ front_rest start ts = front_or ts (start_front start ts) (option_or (brackets_fr
 
 pub rest_front : (start : Bool) (ts : List Spelled) (f : Front) → Some f ≡ front_of start ts → IsRest f.rest ts
 rest_front start ts f h = rw (sym h) at (front_rest start ts)
+
+-- ---- one front after the other
+
+abbrev FitsIn : ℕ → List (Option ℕ) → Option Front → Type 0
+FitsIn most closes None = Unit {0}
+FitsIn most closes (Some f) = (length f.rest ≤ most) × IsClosing closes f.rest
+
+abbrev gone_from : ℕ → Option Front → List Spelled
+gone_from most o = unwrap_or (option_map (λ f. f.gone ++ goes_from most f.starts f.rest) o) []
+
+-- what goes is what goes of the fronts so far and of those that are still to come
+pub record SpansGoOn (closes : List (Option ℕ)) (all : List Spelled) (spans : List Span) (next : Option Front) : Type 0 where
+  pub most : ℕ
+  pub fits : FitsIn most closes next
+  pub same : map span_of (goes all) ≡ spans ++ map span_of (gone_from most next)
+
+fits_rest : (closes : List (Option ℕ)) (most : ℕ) (ts : List Spelled) (o : Option Front) → IsClosing closes ts
+    → length ts ≤ suc most → FrontRest ts o → FitsIn most closes o
+fits_rest closes most ts None k l r = tt
+fits_rest closes most ts (Some f) k l r = (omega (arith, r.shorter, l), closing_tail closes f.rest ts r.tail k)
+
+record Unfolds (closes : List (Option ℕ)) (m : ℕ) (start : Bool) (ts : List Spelled) : Type 0 where
+  most : ℕ
+  fits : FitsIn most closes (front_of start ts)
+  same : goes_from m start ts ≡ gone_from most (front_of start ts)
+
+no_front : (start : Bool) → front_of start [] ≡ None
+no_front true = refl
+no_front false = refl
+
+fits_none : (closes : List (Option ℕ)) (o : Option Front) → o ≡ None → FitsIn 0 closes o
+fits_none closes o h = rw h tt
+
+unfolds : (closes : List (Option ℕ)) (m : ℕ) (start : Bool) (ts : List Spelled) → length ts ≤ m → IsClosing closes ts
+    → Unfolds closes m start ts
+unfolds closes zero start [] l k = record {
+  most = 0;
+  fits = fits_none closes (front_of start []) (no_front start);
+  same = sym (ap (gone_from 0) (no_front start));
+}
+unfolds closes zero start (t ∷ ts) l k = absurd (omega (arith, l))
+unfolds closes (suc m) start ts l k = record {
+  most = m;
+  fits = fits_rest closes m ts (front_of start ts) k l (front_rest start ts);
+  same = refl;
+}
+
+module _ (closes : List (Option ℕ)) (all : List Spelled) where
+  pub spans_start : (spans : List Span) (next : Option Front) → IsClosing closes all → spans ≡ []
+      → next ≡ front_of true all → SpansGoOn closes all spans next
+  spans_start spans next k e h =
+      let u : Unfolds closes (length all) true all = unfolds closes (length all) true all (omega arith) k in
+      rw (h, e) (record { most = u.most; fits = u.fits; same = ap (map span_of) u.same })
+
+  pub spans_table : (spans : List Span) (f : Front) → SpansGoOn closes all spans (Some f) → IsClosing closes f.rest
+  spans_table spans f g = g.fits.1
+
+  pub spans_more : (spans new : List Span) (f : Front) (next : Option Front) → SpansGoOn closes all spans (Some f)
+      → new ≡ spans ++ map span_of f.gone → next ≡ front_of f.starts f.rest → SpansGoOn closes all new next
+  spans_more spans new f next g e h =
+      let u : Unfolds closes g.most f.starts f.rest = unfolds closes g.most f.starts f.rest g.fits.0 g.fits.1 in
+      rw (h, e) (record {
+        most = u.most;
+        fits = u.fits;
+        same = g.same ∙ rw (map-append, u.same) (sym (append_assoc spans (map span_of f.gone) _));
+      })
+
+  pub spans_end : (spans : List Span) → SpansGoOn closes all spans None → spans ≡ map span_of (goes all)
+  spans_end spans g = sym (g.same ∙ append-nil spans)
+
+pub front_smaller : (o p : Option rust.Front) (f : rust.Front)
+    → option_map spelled_front o ≡ front_of f.starts (map spelled f.rest.now) → p ≡ Some f
+    → option_map_or (λ g. length g.rest.now + 1) o 0 < option_map_or (λ g. length g.rest.now + 1) p 0
+front_smaller None p f h e = rw e (omega arith)
+front_smaller (Some g) p f h e =
+    let r : IsRest (map spelled g.rest.now) (map spelled f.rest.now) =
+        rest_front f.starts (map spelled f.rest.now) (spelled_front g) h in
+    rw e (omega (arith, r.shorter, length-map g.rest.now spelled, length-map f.rest.now spelled))

@@ -1,5 +1,7 @@
 -- The tokens of the program, and tables of them.
-use Rattle.std.specs.Prelude.{◌≡◌, ℕ, ◌<◌, List, [], ◌∷◌, length, slice_index_or, Option, None, option_map}
+use Rattle.std.specs.Prelude.{◌≡◌, ◌==◌, ℕ, suc, ◌<◌, ◌&&◌, not, cond, List, [], ◌∷◌, length, slice_index_or, Option, None, option_map}
+use Rattle.std.specs.Int.{is_in_range}
+use Rattle.std.specs.Str.{byte}
 use Rattle.proto_tokens.specs.Token.{Lexeme, identifier, number, string_literal, punctuation, Spelled}
 use Rattle.source_skip.specs.Shapes.{closed, unwritten, unwritten_of_fields}
 use Rattle.source_skip.specs.declared.token.Kind.{Kind}
@@ -32,3 +34,9 @@ abbrev pub IsClosing : List (Option ℕ) → List Spelled → Type 0
 IsClosing closes [] = Unit {0}
 IsClosing closes (t ∷ ts) = (length ts < length closes)
     × (slice_index_or closes (length ts) None ≡ option_map length (closed 0 ts)) × IsClosing closes ts
+
+-- the bytes from a place on, with spaces in place of those of a span
+abbrev pub blanked : (at : ℕ) → Span → List ℕ → List ℕ
+blanked at span [] = []
+blanked at span (b ∷ bs) =
+    cond (is_in_range span.start span.end at && not (at == span.end)) (byte " ") b ∷ blanked (suc at) span bs

@@ -6,5 +6,8 @@ mod gone;
 mod pieces;
 mod settings;
 mod shapes;
+mod skipping;
 mod token;
 mod words;
+
+pub use skipping::skip;
