@@ -4,3 +4,4 @@ mod Closing
 mod Going
 mod Entries
 mod Fronts
+mod Blanks

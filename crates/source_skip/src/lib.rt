@@ -3,6 +3,7 @@
 
 mod braces;
 mod gone;
+mod language;
 mod pieces;
 mod settings;
 mod shapes;
@@ -10,4 +11,5 @@ mod skipping;
 mod token;
 mod words;
 
+pub use language::begins_other;
 pub use skipping::skip;
