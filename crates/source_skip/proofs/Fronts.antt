@@ -19,7 +19,7 @@ pub record IsRest (us ts : List Spelled) : Type 0 where
   pub tail : IsTail us ts
   pub shorter : length us < length ts
 
-abbrev FrontRest : List Spelled → Option Front → Type 0
+abbrev pub FrontRest : List Spelled → Option Front → Type 0
 FrontRest ts None = Unit {0}
 FrontRest ts (Some f) = IsRest f.rest ts
 

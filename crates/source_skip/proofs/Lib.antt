@@ -5,3 +5,6 @@ mod Going
 mod Entries
 mod Fronts
 mod Blanks
+mod Lengths
+mod TokenEnds
+mod LineEnds

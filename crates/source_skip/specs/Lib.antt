@@ -6,3 +6,4 @@ pub mod ProgramPieces
 pub mod ProgramTokens
 pub mod ProgramSettings
 pub mod ProgramFronts
+pub mod Laws

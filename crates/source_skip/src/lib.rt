@@ -4,6 +4,7 @@
 mod braces;
 mod gone;
 mod language;
+mod laws;
 mod pieces;
 mod settings;
 mod shapes;
@@ -12,4 +13,5 @@ mod token;
 mod words;
 
 pub use language::begins_other;
+pub use laws::{skipping_keeps_lengths, skipping_keeps_lines};
 pub use skipping::skip;
