@@ -1,7 +1,7 @@
 -- Spaces in place of spans.
 use Rattle.std.specs.Prelude.{◌≡◌, ℕ, zero, suc, ◌+◌, ◌-◌, ◌≤◌, ◌<◌, Bool, true, false, cond, not, ◌&&◌, ◌||◌, ◌==◌, List, [], ◌∷◌, ◌++◌, map, length, take, drop, replicate}
 use Prim.Native.Nat.{min}
-use Rattle.std.proofs.Common.{refl, arith, sym, ap, ◌∙◌, get_or, length-drop}
+use Rattle.std.proofs.Common.{refl, arith, ap, ◌∙◌, get_or, length-drop}
 use Rattle.std.proofs.lemmas.Bool.Decides.{nat_tests}
 use Rattle.std.proofs.lemmas.Grind.{common_steps}
 use Rattle.std.proofs.lemmas.List.{get_or-map, length-map, take_more}

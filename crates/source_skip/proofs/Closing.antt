@@ -1,5 +1,5 @@
 -- The table of where braces close.
-use Rattle.std.specs.Prelude.{◌≡◌, ℕ, zero, suc, ◌+◌, ◌-◌, ◌≤◌, ◌<◌, Bool, true, false, cond, List, [], ◌∷◌, ◌++◌, map, length, take, drop, Option, None, Some, option_map, option_and_then}
+use Rattle.std.specs.Prelude.{◌≡◌, ℕ, zero, suc, ◌-◌, ◌≤◌, ◌<◌, Bool, true, false, cond, List, [], ◌∷◌, ◌++◌, map, length, take, drop, Option, None, Some, option_map, option_and_then}
 use Rattle.std.proofs.Common.{refl, arith, sym, ap, ◌∙◌, get_or}
 use Rattle.std.proofs.lemmas.Grind.{common_steps}
 use Rattle.std.proofs.lemmas.List.{drop-map, get_or-map, get_or_append_left, get_or_read, get_or_push, length-map, length_push}
@@ -7,7 +7,7 @@ use Rattle.std.proofs.Math.Seq.{drop-cons}
 use Rattle.proto_tokens.specs.Token.{Spelled}
 use Rattle.source_skip.specs.ProgramTokens.{IsClosing}
 use Rattle.source_skip.specs.Shapes.{Braces, behind, closed, is_symbol}
-use Rattle.source_skip.proofs.Behind.{IsTail, here, later, ShorterOf, TailOf, closed_tail, tail_dropped, tail_within}
+use Rattle.source_skip.proofs.Behind.{IsTail, here, later, TailOf, closed_tail, tail_dropped, tail_within}
 
 -- ---- what a table says
 

@@ -1,18 +1,17 @@
 -- The settings between brackets, one after the other.
-use Rattle.std.specs.Prelude.{◌≡◌, ℕ, zero, suc, ◌+◌, ◌≤◌, ◌<◌, Bool, true, false, cond, not, ◌||◌, List, [], ◌∷◌, ◌++◌, map, length, drop, Option, None, Some, option_map, option_and_then}
+use Rattle.std.specs.Prelude.{◌≡◌, ℕ, zero, suc, ◌+◌, ◌≤◌, ◌<◌, Bool, true, false, cond, not, ◌||◌, List, [], ◌∷◌, ◌++◌, map, length, drop, Option, None, Some, option_map}
 use Rattle.std.proofs.Common.{refl, arith, sym, ap, ◌∙◌, append_assoc, get_or, add-one}
 use Rattle.std.proofs.lemmas.List.{get_or-map, length-map, map-append}
 use Rattle.std.proofs.Math.Seq.{drop-cons}
-use Rattle.std.proofs.lemmas.Grind.{common_steps}
 use Rattle.std.specs.List.{IsFirstAndRest}
 use Rattle.std.specs.Option.{MatchOption, option_map_or, option_or}
 use denote.Ref.{Bor}
 use Rattle.proto_tokens.specs.Token.{Spelled}
 use Rattle.source_skip.specs.ProgramTokens.{IsClosing, span_of}
 use Rattle.source_skip.specs.declared.token.Span.{Span}
-use Rattle.source_skip.specs.Shapes.{Shape, behind, is_symbol, leaving, staying, symbol, unwritten_of_fields}
+use Rattle.source_skip.specs.Shapes.{behind, is_symbol, leaving, staying, symbol, unwritten_of_fields}
 use Rattle.source_skip.specs.Skipped.{Brackets, Entry, before, brackets, entry_by, entry_of, gone_later, gone_of, with_entry}
-use Rattle.source_skip.proofs.Behind.{IsTail, later, TailOf, behind_tail, closing_tail, tail_behind, tail_tail, tail_within}
+use Rattle.source_skip.proofs.Behind.{IsTail, TailOf, behind_tail, closing_tail, tail_within}
 
 -- ---- what stands behind a setting is a tail
 

@@ -1,5 +1,5 @@
 -- What stands at the front of tokens, one front after the other.
-use Rattle.std.specs.Prelude.{◌≡◌, ℕ, zero, suc, ◌+◌, ◌≤◌, ◌<◌, Bool, true, false, cond, not, ◌||◌, List, [], ◌∷◌, ◌++◌, map, length, drop, Option, None, Some, option_map, option_and_then, unwrap_or}
+use Rattle.std.specs.Prelude.{◌≡◌, ℕ, zero, suc, ◌+◌, ◌≤◌, ◌<◌, Bool, true, false, cond, List, [], ◌∷◌, ◌++◌, map, length, Option, None, Some, option_map, option_and_then, unwrap_or}
 use Rattle.std.proofs.Common.{refl, arith, sym, ap, ◌∙◌, append_assoc, append-nil}
 use Rattle.std.proofs.lemmas.List.{length-map, map-append}
 use Rattle.std.specs.Option.{option_map_or, option_or}
@@ -8,9 +8,9 @@ use Rattle.source_skip.specs.ProgramFronts.{front_of as spelled_front}
 use Rattle.source_skip.specs.ProgramTokens.{IsClosing, span_of, spelled}
 use Rattle.source_skip.specs.declared.gone.Front as rust
 use Rattle.source_skip.specs.declared.token.Span.{Span}
-use Rattle.source_skip.specs.Shapes.{Shape, behind, is_symbol, statement, symbol, weak}
+use Rattle.source_skip.specs.Shapes.{behind, is_symbol, statement, symbol, weak}
 use Rattle.source_skip.specs.Skipped.{Brackets, Entry, Front, brackets, brackets_front, entry_of, front_of, goes, goes_from, start_front, statement_front, token_front, weak_front, with_entry}
-use Rattle.source_skip.proofs.Behind.{IsTail, here, later, ShorterOf, TailOf, TakesOne, behind_shorter, behind_tail, closing_tail, tail_tail, tail_within}
+use Rattle.source_skip.proofs.Behind.{IsTail, here, later, ShorterOf, TailOf, behind_shorter, behind_tail, closing_tail, tail_tail, tail_within}
 use Rattle.source_skip.proofs.Entries.{EntryTail, entry_tail}
 
 -- ---- what stands behind a front is a shorter tail

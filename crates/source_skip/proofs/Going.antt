@@ -1,12 +1,12 @@
 -- The tokens of a text from a place on.
-use Rattle.std.specs.Prelude.{◌≡◌, ℕ, zero, suc, ◌+◌, ◌-◌, ◌≤◌, Bool, true, false, cond, ◌==◌, List, [], ◌∷◌, ◌++◌, length, take, drop, take_while, Option, None, Some, option_map, unwrap_or}
-use Rattle.std.proofs.Common.{refl, arith, sym, append_assoc, ap, drop-drop, ◌∙◌, subst}
+use Rattle.std.specs.Prelude.{◌≡◌, ℕ, zero, suc, ◌+◌, ◌-◌, ◌≤◌, Bool, true, false, cond, ◌==◌, List, [], ◌∷◌, length, take, drop, Option, None, Some, option_map, unwrap_or}
+use Rattle.std.proofs.Common.{refl, arith, sym, ap, drop-drop, ◌∙◌}
 use Rattle.std.proofs.lemmas.Grind.{common_steps}
 use Rattle.std.specs.Str.{byte}
 use Rattle.proto_tokens.specs.Bytes.{is_blank, is_word, is_quote, is_punctuation}
 use Rattle.proto_tokens.specs.Spelling.{Piece, with_token}
-use Rattle.proto_tokens.specs.Token.{Lexeme, Spelled, punctuation, string_literal}
-use Rattle.source_skip.specs.Pieces.{comment_len, comment_or_slash, first_piece, loose_tokens, piece, string_len, tokens_from, word_is}
+use Rattle.proto_tokens.specs.Token.{Lexeme, Spelled, string_literal}
+use Rattle.source_skip.specs.Pieces.{comment_len, comment_or_slash, first_piece, string_len, tokens_from}
 use Rattle.source_skip.specs.ProgramPieces.{lexeme_of, piece_in, tokens_behind}
 
 -- ---- a piece has a byte at least, so that as many pieces as bytes are enough

@@ -1,5 +1,5 @@
 -- Texts of another language.
-use Rattle.std.specs.Prelude.{ℕ, Bool, false, not, ◌||◌, List, [], ◌∷◌, codes, bytes_eq}
+use Rattle.std.specs.Prelude.{Bool, false, not, ◌||◌, List, [], ◌∷◌, codes, bytes_eq}
 use Rattle.proto_syntax.specs.Grammar.{OneOf, fits}
 use Rattle.proto_tokens.specs.Token.{Lexeme, Spelled, string_literal}
 

@@ -1,5 +1,5 @@
 -- The settings between brackets, as the program has them.
-use Rattle.std.specs.Prelude.{ℕ, List, map, Option, None, Some}
+use Rattle.std.specs.Prelude.{List, map}
 use Rattle.proto_tokens.specs.Token.{Spelled}
 use Rattle.source_skip.specs.ProgramTokens.{spelled}
 use Rattle.source_skip.specs.Skipped as skipped

@@ -1,4 +1,4 @@
-use Rattle.std.proofs.Common.{◌≡◌, true, false, List, [], ◌∷◌, refl, sym, ◌∙◌, ap}
+use Rattle.std.proofs.Common.{◌≡◌, true, false, List, [], ◌∷◌, refl, sym, ◌∙◌}
 use Rattle.proto_tokens.specs.Token.{Spelled}
 use Rattle.source_skip.specs.Languages.{begins_other, is_syntax}
 use Rattle.source_skip.specs.ProgramPieces.{tokens_behind}

@@ -1,4 +1,4 @@
-use Rattle.std.proofs.Common.{ℕ, ◌≡◌, ◌-◌, List, length, map, take, sym, ap, ◌∙◌}
+use Rattle.std.proofs.Common.{ℕ, ◌≡◌, ◌-◌, List, length, map, take, sym}
 use Rattle.std.proofs.lemmas.List.{length-map, take-map}
 use Rattle.source_skip.specs.ProgramTokens.{spelled}
 use Rattle.source_skip.proofs.settings.before.Goals as goal
