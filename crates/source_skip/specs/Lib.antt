@@ -1,4 +1,9 @@
-pub mod Languages
 pub mod Pieces
 pub mod Shapes
 pub mod Skipped
+pub mod Languages
+pub mod ProgramPieces
+pub mod ProgramTokens
+pub mod ProgramSettings
+pub mod ProgramFronts
+pub mod Laws

@@ -1,26 +1,17 @@
-//! Sources as if custom options were not there. (A stub.)
+//! Sources as if custom options were not there.
 #![tactic(auto)]
 
-ghost use Rattle.std.specs.Prelude.{◌≡◌, OnErr, OnOk};
-ghost use Rattle.source_skip.specs.Languages.{begins_other};
-ghost use Rattle.source_skip.specs.Pieces.{loose_tokens};
-ghost use Rattle.source_skip.specs.Skipped.{skipped};
+mod braces;
+mod gone;
+mod language;
+mod laws;
+mod pieces;
+mod settings;
+mod shapes;
+mod skipping;
+mod token;
+mod words;
 
-use std::alloc::{AllocError, Global};
-
-/// Puts spaces where the tokens of what is left out stood.
-pub fn skip(_alloc: Global, text: &mut [u8]) -> Result<(), AllocError>
-    ensures skipped { OnOk result (text.new ≡ skipped text.old) }
-    ensures same { OnErr result (text.new ≡ text.old) }
-{
-    let _ = text;
-    Err(AllocError)
-}
-
-/// Whether a text is of another language.
-pub fn begins_other(text: &[u8]) -> bool
-    ensures { result ≡ begins_other (loose_tokens text.now) }
-{
-    let _ = text;
-    false
-}
+pub use language::begins_other;
+pub use laws::{skipping_keeps_lengths, skipping_keeps_lines};
+pub use skipping::skip;

@@ -1,0 +1,10 @@
+mod Scans
+mod Behind
+mod Closing
+mod Going
+mod Entries
+mod Fronts
+mod Blanks
+mod Lengths
+mod TokenEnds
+mod LineEnds
