@@ -9,6 +9,8 @@ use Rattle.clap.specs.declared.parser.matches.Found.{Found}
 use Rattle.first_reach.specs.declared.mode.Mode.{Mode}
 use Rattle.first_reach.specs.declared.mode.Mode.TheVariants as mode
 use Rattle.share_work.specs.declared.plan.Plan.{Plan}
+use Rattle.schema_command_line.specs.declared.task.Origin.{Origin}
+use Rattle.schema_command_line.specs.declared.task.Origin.TheVariants as origin
 use Rattle.schema_command_line.specs.declared.task.Selection.{Selection}
 use Rattle.schema_command_line.specs.declared.task.Task.{Task}
 use Rattle.schema_command_line.specs.declared.task.Task.TheVariants as task
@@ -25,6 +27,11 @@ pub record IsSelection (found : Found) (selection : Selection) : Type 0 where
   pub root : selection.root.now ≡ value_of found (codes "root")
   pub includes : map (λ s. s.now) selection.includes.items ≡ values_of found (codes "include")
   pub files : map (λ s. s.now) selection.files.items ≡ values_of found (codes "files")
+
+-- what is answered from is the set of the words or, where they have none, their sources
+abbrev pub IsOrigin : Found → Origin → Type 0
+IsOrigin found (origin.Sources selection) = (first_value found (codes "set") ≡ None) × IsSelection found selection
+IsOrigin found (origin.Set path) = first_value found (codes "set") ≡ Some path.now
 
 -- an argument is this number, in decimal digits
 abbrev pub HasNumber : Found → List ℕ → ℕ → Type 0
@@ -57,11 +64,11 @@ IsTaskNamed name found (task.Compile selection plan file) =
     × (option_map (λ s. s.now) file ≡ file_of (first_value found (codes "output")))
 IsTaskNamed name found (task.Check selection plan) =
     (name ≡ codes "check") × IsSelection found selection × IsPlan found plan
-IsTaskNamed name found (task.Serve selection listen plan m connections) =
-    (name ≡ codes "serve") × IsSelection found selection × (listen.now ≡ value_of found (codes "listen"))
+IsTaskNamed name found (task.Serve from listen plan m connections) =
+    (name ≡ codes "serve") × IsOrigin found from × (listen.now ≡ value_of found (codes "listen"))
     × IsPlan found plan × IsMode found m × AreConnections found connections
-IsTaskNamed name found (task.Answer selection plan m) =
-    (name ≡ codes "answer") × IsSelection found selection × IsPlan found plan × IsMode found m
+IsTaskNamed name found (task.Answer from plan m) =
+    (name ≡ codes "answer") × IsOrigin found from × IsPlan found plan × IsMode found m
 IsTaskNamed name found (task.Describe described) =
     (name ≡ codes "describe") × (described.now ≡ value_of found (codes "name"))
 IsTaskNamed name found (task.Explain topic) = name ≡ codes "explain"

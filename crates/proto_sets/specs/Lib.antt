@@ -1,0 +1,2 @@
+pub mod SetFaults
+pub mod SetKind
