@@ -1,7 +1,7 @@
 -- What occurs once: the full name of an element; and what is repeated, with the first of it.
-use Rattle.proto_names.proofs.Common.{common_steps, ◌≡◌, ℕ, List, ◌⊎◌, arith, refl, Some, slice_get, ap, ◌≢◌, Bool, ◌+◌, ◌-◌, ◌<◌, ◌≤◌, length, Contains, false, Option, None, IsSomeAnd, MatchOption, cases_eq, cases_lt, IsPermutation-sym, gets, get_or_from_slice_get, slice_get-get_or, slice_get_within, Index, Indexes, IsNoLater, IsPackage, NoneTwice, Occurrence, occurrences, IsTwice, AreInOrder, IsEarlierOf, NoLater, location_of, IsFirstOf, IsRun, Repeats, at, blank, Location}
-use Rattle.proto_desc.specs.declared.file.FileDesc.{FileDesc}
+use Rattle.proto_names.proofs.Common.{common_steps, ◌≡◌, ℕ, List, ◌⊎◌, arith, refl, Some, slice_get, ap, ◌≢◌, Bool, ◌+◌, ◌-◌, ◌<◌, ◌≤◌, length, Contains, false, Option, None, IsSomeAnd, MatchOption, cases_eq, cases_lt, IsPermutation-sym, gets, get_or_from_slice_get, slice_get-get_or, slice_get_within, Index, IsNoLater, IsPackage, NoneTwice, Occurrence, IsTwice, AreInOrder, IsEarlierOf, NoLater, location_of, IsFirstOf, IsRun, Repeats, at, blank, Location}
 use Rattle.proto_base.specs.declared.limits.Limits.{Limits}
+use Rattle.proto_names.specs.Index.{IndexesNames}
 use Rattle.proto_names.specs.Repeated.{AreDeclaredOnce, IsFirstTwice}
 use Rattle.proto_names.proofs.Built.{twice_moved}
 use Rattle.proto_names.proofs.Ordered.{places_in_order, names_between}
@@ -18,12 +18,12 @@ alone : (os : List Occurrence) (i j : ℕ) (o p : Occurrence) → NoneTwice os �
     → o.name ≡ p.name → (IsPackage o → ⊥) → i ≡ j
 alone os i j o p none first second same element = grind (arith, cases_eq i j, one_no_later o p, none p, none o)
 
-pub declared_once : (index : Index) (descs : List FileDesc) (limits : Limits) → Indexes descs limits index
-    → AreDeclaredOnce index
-declared_once index descs limits is =
+pub declared_once : (index : Index) (count : ℕ) (names : List Occurrence) (limits : Limits)
+    → IndexesNames count names limits index → AreDeclaredOnce index
+declared_once index count names limits is =
     let os = index.occurrences in
-    let back = IsPermutation-sym (occurrences descs) os is.all in
-    let none : NoneTwice os = λ b twice. is.once b (twice_moved os (occurrences descs) back b twice) in
+    let back = IsPermutation-sym names os is.all in
+    let none : NoneTwice os = λ b twice. is.once b (twice_moved os names back b twice) in
     record {
       one = λ o p here there same element. grind (arith, gets, alone os here.0 there.0 o p none);
       once = λ i j o first second. alone os i j o o none first second refl;

@@ -63,3 +63,11 @@ scope_name os (Some k) = (at os k).name
 -- what stands there is a scope: it has a name that is not empty
 abbrev pub IsScopeAmong : List Occurrence → Option ℕ → Type 0
 IsScopeAmong os scope = IfSome scope (λ k. (k < length os) × ((at os k).name ≢ []))
+
+-- ---- names that are too long
+
+-- at a position, the first name of more bytes than this
+pub record IsFirstLonger (most : ℕ) (os : List Occurrence) (k : ℕ) : Type 0 where
+  pub below : k < length os
+  pub long : most < length (at os k).name
+  pub before : (j : ℕ) → j < k → length (at os j).name ≤ most

@@ -32,12 +32,16 @@ pub record IsSound (index : Index) : Type 0 where
   pub services : IsPermutation (services_of index.occurrences) index.services
   pub order : IsSorted (slice_cmp nat_cmp) index.services
 
--- ---- what the index of files is
+-- ---- what the index of names is
 
--- all that occurs in files, where it is no more than the limit and no name occurs twice
-pub record Indexes (descs : List FileDesc) (limits : Limits) (index : Index) : Type 0 where
-  pub files : index.files ≡ length descs
-  pub within : length (occurrences descs) ≤ limit_of limits limit.Names
-  pub once : NoneTwice (occurrences descs)
-  pub all : IsPermutation (occurrences descs) index.occurrences
+-- names in so many files, where they are no more than the limit and none occurs twice
+pub record IndexesNames (count : ℕ) (names : List Occurrence) (limits : Limits) (index : Index) : Type 0 where
+  pub files : index.files ≡ count
+  pub within : length names ≤ limit_of limits limit.Names
+  pub once : NoneTwice names
+  pub all : IsPermutation names index.occurrences
   pub sound : IsSound index
+
+-- all that occurs in files
+abbrev pub Indexes : List FileDesc → Limits → Index → Type 0
+Indexes descs limits index = IndexesNames (length descs) (occurrences descs) limits index

@@ -1,8 +1,8 @@
 //! The entries of an index: the occurrences of full names, whose own names stand in one text.
 
-ghost use Rattle.std.specs.Prelude.{◌≡◌, ◌≢◌, ◌⊎◌, ℕ, ◌<◌, ◌++◌, ◌∷◌, [], List, length, IfOk, IsUtf8, MatchOption, None, OnOk, map};
+ghost use Rattle.std.specs.Prelude.{◌≡◌, ◌≢◌, ◌⊎◌, ℕ, ◌<◌, ◌≤◌, All, ◌++◌, ◌∷◌, [], List, length, IfOk, IsUtf8, MatchOption, None, OnOk, map};
 ghost use Rattle.std.specs.List.{fold};
-ghost use Rattle.proto_names.specs.Entries.{AreEntriesOf, IsScopeAmong, occurrences_of_entries, scope_name};
+ghost use Rattle.proto_names.specs.Entries.{AreEntriesOf, IsFirstLonger, IsScopeAmong, occurrences_of_entries, scope_name};
 ghost use Rattle.proto_names.specs.Hashes.{hash_of, hash_step, rolling_hash};
 ghost use Rattle.proto_names.specs.Occurrences.{package_occurrence};
 ghost use Rattle.proto_names.specs.Order.{location_of};
@@ -23,7 +23,7 @@ use std::marker::Model;
 /// Entries and the text of their own names, in which each stands behind the last. Contracts see them as the occurrences that
 /// they stand for.
 #[derive(Drop)]
-pub(crate) struct Entries {
+pub struct Entries {
     text: String,
     entries: Vec<Entry>,
 }
@@ -95,7 +95,7 @@ fn put_prefixes(
 
 impl Entries {
     /// No entries, which take no memory.
-    pub(crate) fn new(alloc: Global) -> Entries
+    pub fn new(alloc: Global) -> Entries
         ensures { result ≡ [] }
     {
         Entries {
@@ -118,7 +118,7 @@ impl Entries {
 
     /// Puts entries of a package's name and its shorter prefixes behind the others, the longest first. It gives the first as a
     /// scope, which is none where the name is empty.
-    pub(crate) fn push_package(
+    pub fn push_package(
         &mut self,
         name: &str,
         location: Location,
@@ -137,7 +137,7 @@ impl Entries {
 
     /// Puts an entry of a name behind the others, in the scope whose entry stands at a position; without one, in no scope. It
     /// gives the new entry as a scope, which is none where its full name is empty.
-    pub(crate) fn push(
+    pub fn push(
         &mut self,
         scope: Option<u32>,
         name: &str,
@@ -173,10 +173,24 @@ impl Entries {
     }
 
     /// How many entries there are.
-    pub(crate) fn len(&self) -> usize
+    pub fn len(&self) -> usize
         ensures { result ≡ length self.now }
     {
         self.entries.len()
+    }
+
+    /// Where the first name stands that has more bytes than this.
+    pub fn first_longer(&self, most: usize) -> Option<Location>
+        ensures { MatchOption result (All (λ o. length o.name ≤ most) self.now)
+            (λ location. (k : ℕ) × IsFirstLonger most self.now k
+            × (location ≡ location_of (at self.now k))) }
+    {
+        for position in 0..self.len() {
+            if !self.bytes(position).is_within(most) {
+                return Some(self.location(position));
+            }
+        }
+        None
     }
 
     /// The hash of the name at a position.

@@ -8,9 +8,9 @@ use proto_desc::name_kind::NameKind;
 
 /// A place in one of the files, which has a position among all. The order is that of the fields.
 #[derive(Clone, Copy, PartialEq, Eq, PartialOrd, Ord)]
-pub(crate) struct Location {
-    pub(crate) file: u32,
-    pub(crate) place: Place,
+pub struct Location {
+    pub file: u32,
+    pub place: Place,
 }
 
 /// The first byte of the first file.

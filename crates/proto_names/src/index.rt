@@ -1,11 +1,11 @@
 //! The index of the names of files.
 
-ghost use Rattle.std.specs.Prelude.{◌≡◌, ℕ, ◌<◌, flat_map, map, Err, IfOk, IfSome, None, Some, Contains, string_bytes, length, IsPermutation, IsSorted};
+ghost use Rattle.std.specs.Prelude.{◌≡◌, ℕ, ◌<◌, All, flat_map, map, Err, IfOk, IfSome, None, Some, Contains, string_bytes, length, IsPermutation, IsSorted};
 ghost use Rattle.std.specs.Cmp.Lexicographic.{slice_cmp};
 ghost use Rattle.std.specs.Ordering.{nat_cmp};
-ghost use Rattle.proto_names.specs.Index.{Indexes, services_of};
+ghost use Rattle.proto_names.specs.Index.{Indexes, IndexesNames, services_of};
 ghost use Rattle.proto_names.specs.Shares.{IsFirstOf, services_in, table_of, twice_of};
-ghost use Rattle.proto_names.specs.Repeated.{AreDeclaredOnce, IsRepeated};
+ghost use Rattle.proto_names.specs.Repeated.{AreDeclaredOnce, IsRepeated, IsRepeatedAmong};
 ghost use Rattle.proto_names.specs.declared.index.Defined.{Defined};
 ghost use Rattle.proto_names.specs.Occurrences.{Occurrence, IsPackage, occurrences};
 ghost use Rattle.proto_names.specs.declared.index.NameError.TheVariants as errors;
@@ -13,11 +13,12 @@ ghost use Rattle.proto_base.specs.Limits.{limit_of};
 ghost use Rattle.proto_base.specs.declared.limits.Limit.TheVariants as limit;
 ghost use Rattle.proto_base.specs.declared.place.Place.{Place};
 
+use crate::entries::Entries;
 use crate::entry::Location;
 use crate::hashing::HashedName;
 use crate::scope::Scope;
 use crate::scope_parts::ScopeParts;
-use crate::shares::sorted_shares;
+use crate::shares::{sort_alone, sorted_shares};
 use crate::sorted::SortedShare;
 use crate::table::EntryTable;
 use crate::tables::Tables;
@@ -175,6 +176,35 @@ impl NameIndex {
         Ok(NameIndex {
             files: files.len(),
             entries: Tables::new(tables, parts),
+            services,
+        })
+    }
+
+    /// The index of names that were put in so many files. It starts no thread.
+    pub fn of_names(
+        alloc: Global,
+        names: Entries,
+        files: usize,
+        limits: &Limits,
+    ) -> Result<NameIndex, NameError>
+        requires { All (λ o. o.file < files) names }
+        ensures indexed { IfOk result (IndexesNames files names limits.now) }
+        ensures twice { (file : ℕ) (place : Place) → result ≡ Err (errors.At file place)
+            → IsRepeatedAmong names limits.now file place }
+        ensures many { result ≡ Err errors.TooMany
+            → limit_of limits.now limit.Names < length names }
+    {
+        if names.len() as u64 > limits.get(Limit::Names) {
+            return Err(NameError::TooMany);
+        }
+        let shares = sort_alone(alloc, names, files)?;
+        if let Some(location) = first_of(&shares) {
+            return Err(NameError::At(location.file as FileId, location.place));
+        }
+        let (tables, services) = taken_apart(alloc, shares)?;
+        Ok(NameIndex {
+            files,
+            entries: Tables::new(tables, None),
             services,
         })
     }

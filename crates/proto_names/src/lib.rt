@@ -35,6 +35,8 @@ mod threading;
 mod twice;
 mod visible;
 
+pub use entries::Entries;
+pub use entry::Location;
 pub use full_name::name_in;
 pub use index::{Defined, NameError, NameIndex};
 pub use resolve::{FoundInside, FoundType, ResolveError, Resolved, Want, resolution_is_unique};

@@ -90,6 +90,26 @@ impl<'e> NameBytes<'e> {
         }
     }
 
+    /// Whether there are at most so many.
+    pub(crate) fn is_within(self, most: usize) -> bool
+        ensures { IsTrue result ↔ (length self.entry ≤ most) }
+    {
+        let mut left = self;
+        let mut room = most;
+        while left.unread.len() <= room {
+            room -= left.unread.len();
+            left.unread = &[];
+            if left.next_back().is_none() {
+                return true;
+            }
+            if room == 0 {
+                return false;
+            }
+            room -= 1;
+        }
+        false
+    }
+
     /// These bytes as a text of its own.
     pub(crate) fn to_text(self, alloc: Global) -> Result<String, AllocError>
         requires { IsUtf8 self }

@@ -7,6 +7,7 @@ ghost use Rattle.share_work.specs.Shares.{GivesItems};
 
 use crate::collect::collect_files;
 use crate::collected::Collected;
+use crate::entries::Entries;
 use crate::parts::{THREADS, collect_in_threads};
 use crate::share::Share;
 use crate::sorted::{SortedShare, sort_share};
@@ -105,6 +106,27 @@ where
     }
 }
 
+/// Occurrences that stand in so many files, sorted in one share. It starts no thread.
+pub(crate) fn sort_alone(
+    alloc: Global,
+    entries: Entries,
+    files: usize,
+) -> Result<Vec<SortedShare>, AllocError>
+    requires few { length entries ≤ 1_048_576 }
+    requires inside { All (λ o. o.file < files) entries }
+    ensures { IfOk result (λ outs. AreSharesOf entries outs.items) }
+{
+    let collected = Collected::in_one(alloc, entries)?;
+    let shared = Arc::new(alloc, collected)?;
+    let all = Share {
+        position: 0,
+        count: 1,
+    };
+    let mut outs = Vec::with_capacity(alloc, 1)?;
+    outs.push(sort_share(alloc, &shared, all, files)?)?;
+    Ok(outs)
+}
+
 /// The occurrences in files, sorted in one share, or none where they are more than the limit. It starts no thread.
 fn sorted_alone(
     alloc: Global,
@@ -120,15 +142,7 @@ fn sorted_alone(
     let Some(entries) = collect_files(alloc, 0, files, limit)? else {
         return Ok(None);
     };
-    let collected = Collected::in_one(alloc, entries)?;
-    let shared = Arc::new(alloc, collected)?;
-    let all = Share {
-        position: 0,
-        count: 1,
-    };
-    let mut outs = Vec::with_capacity(alloc, 1)?;
-    outs.push(sort_share(alloc, &shared, all, files.len())?)?;
-    Ok(Some(outs))
+    Ok(Some(sort_alone(alloc, entries, files.len())?))
 }
 
 /// The occurrences in files, in sorted shares, or none where they are more than the limit.

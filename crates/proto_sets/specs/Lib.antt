@@ -1,2 +1,3 @@
 pub mod SetFaults
-pub mod SetKind
+pub mod SetKinds
+pub mod Sets

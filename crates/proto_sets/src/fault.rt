@@ -1,42 +1,127 @@
 //! Stub.
 
-ghost use Rattle.std.specs.Prelude.{IfErr, IfOk};
-ghost use Rattle.proto_sets.specs.SetFaults.{IsOfSet, IsToldOf};
+ghost use Rattle.std.specs.Prelude.{◌≡◌, IfErr, IfOk, Some};
+ghost use Rattle.proto_sets.specs.SetFaults.{IsLeastFault, TellsOf};
+ghost use Rattle.proto_sets.specs.SetKinds.{name_of};
+ghost use Rattle.proto_sets.specs.Sets.{IsOfSet};
 
-use crate::kind::SetKind;
 use proto_base::Limits;
 use proto_compilation::Compiled;
 use std::alloc::Global;
+use std::fmt;
+use thiserror::Error;
 
-/// What a fault of a set is about.
+/// What is wrong with a set. A later pass looks only at what has passed the earlier ones.
+#[derive(Clone, Copy, Debug, PartialEq, Eq)]
+pub enum SetKind {
+    /// Pass 0: the set has more bytes than the limit.
+    SetTooLong,
+    /// Pass 1: the bytes of the set are no row of fields.
+    MalformedSet,
+    /// Pass 2: the set has more files than the limit.
+    TooManyFiles,
+    /// Pass 3: the bytes of a file are no row of fields, or its name is no UTF-8.
+    MalformedFile,
+    /// Pass 3: the name of a file is left out, or empty.
+    FileWithoutName,
+    /// Pass 4: two files have one name.
+    FileNameTwice,
+    /// Pass 5: an element of a file is no row of fields, or stands in too many others; or its name, a package or the path of
+    /// an import is no UTF-8.
+    MalformedContents,
+    /// Pass 6: a full name has more bytes than the limit.
+    NameTooLong,
+    /// Pass 7: an import names no file of the set.
+    ImportMissing,
+    /// Pass 7: a file imports itself, by way of others or not.
+    ImportCycle,
+    /// Pass 8: more names occur than the limit.
+    TooManyNames,
+    /// Pass 9: a full name stands for two things.
+    NameTwice,
+}
+
+/// The file in which a fault is.
 #[derive(Debug, Drop)]
-pub enum SetPart {
-    /// The set as a whole.
-    Whole,
-    /// The file at a position among the files of the set, from 0: it has no name that can be told.
+pub enum FaultyFile {
+    /// None: the fault is one of the whole set.
+    WholeSet,
+    /// One without a name that can be read, by its position among the files of the set, from 0.
     At(usize),
     /// The file of this name.
     Named(String),
 }
 
-/// A fault of a set.
+/// What is wrong, and in which file. Descriptors have no places.
 #[derive(Debug, Drop)]
 pub struct SetFault {
-    pub part: SetPart,
+    pub file: FaultyFile,
     pub kind: SetKind,
 }
 
-/// Why a set is not read.
-#[derive(Debug, Drop)]
+/// Why a set is not read: its first fault, or no memory.
+#[derive(Debug, Drop, Error)]
 pub enum SetError {
+    #[error("the set has a fault")]
     First(SetFault),
+    #[error("out of memory")]
     NoMemory,
 }
 
+
+impl SetKind {
+    /// The kind's name, as users read it.
+    pub fn name(self) -> &'static str
+        ensures { result.now ≡ name_of self }
+    {
+        match self {
+            SetKind::SetTooLong => "SetTooLong",
+            SetKind::MalformedSet => "MalformedSet",
+            SetKind::TooManyFiles => "TooManyFiles",
+            SetKind::MalformedFile => "MalformedFile",
+            SetKind::FileWithoutName => "FileWithoutName",
+            SetKind::FileNameTwice => "FileNameTwice",
+            SetKind::MalformedContents => "MalformedContents",
+            SetKind::NameTooLong => "NameTooLong",
+            SetKind::ImportMissing => "ImportMissing",
+            SetKind::ImportCycle => "ImportCycle",
+            SetKind::TooManyNames => "TooManyNames",
+            SetKind::NameTwice => "NameTwice",
+        }
+    }
+}
+
+impl fmt::Display for SetKind {
+    ghost output = { λ kind. Some (name_of kind) };
+
+    fn fmt<W: fmt::Write>(&self, f: &mut fmt::Formatter<W>) -> fmt::Result {
+        f.write_str(self.name())
+    }
+}
+
+/// An extension.
+#[derive(Clone, Copy, Debug)]
+pub struct Extension<'b> {
+    pub extendee: &'b [u8],
+    pub number: u32,
+    pub file: u32,
+}
+
+/// What a set is read as.
+#[derive(Drop)]
+pub struct ReadSet<'b> {
+    pub compiled: Compiled,
+    pub extensions: Vec<Extension<'b>>,
+}
+
 /// Reads a set.
-pub fn read_set(_alloc: Global, _set: &[u8], _limits: &Limits) -> Result<Compiled, SetError>
-    ensures read { IfOk result (IsOfSet _limits.now _set.now) }
-    ensures first { IfErr result (IsToldOf _limits.now _set.now) }
+pub fn read_set<'b>(
+    _alloc: Global,
+    _set: &'b [u8],
+    _limits: &Limits,
+) -> Result<ReadSet<'b>, SetError>
+    ensures read { IfOk result (λ r. IsOfSet _limits.now _set.now r.compiled) }
+    ensures first { IfErr result (TellsOf (IsLeastFault _limits.now _set.now)) }
 {
     Err(SetError::NoMemory)
 }

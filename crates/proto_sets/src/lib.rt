@@ -2,7 +2,5 @@
 #![tactic(auto)]
 
 mod fault;
-mod kind;
 
-pub use fault::{SetError, SetFault, SetPart, read_set};
-pub use kind::SetKind;
+pub use fault::{Extension, FaultyFile, ReadSet, SetError, SetFault, SetKind, read_set};

@@ -20,8 +20,7 @@ use Rattle.schema_failure.specs.declared.failure.Failure.TheVariants as failure
 use Rattle.schema_headline.specs.Describe.{IsDescribedBy}
 use Rattle.schema_headline.specs.Headline.{IsSetOf}
 use Rattle.schema_compile.specs.Sources.{AreSourcesOf}
-use Rattle.schema_set.specs.Sets as sets
-use Rattle.schema_set.specs.Sets.{IsOfSet}
+use Rattle.schema_set.specs.Sets.{IsOfSomeSet, IsToldOfSet}
 use Rattle.schema_sources.specs.Texts.{AreStandard, AreTextsOf, KnownSources}
 use Rattle.source_folder.specs.declared.folder.NamedText.{NamedText}
 
@@ -105,7 +104,7 @@ IsAnswerRun known = IsAnswerOver (λ limits c. IsCompiledTo limits known c) (λ 
 
 -- over what the set at a path says, or its first fault
 abbrev pub IsSetAnswerRun : {A : Type 0} → List ℕ → Mode → Reads → Reads → Writes → Writes → Result A Failure → Type 0
-IsSetAnswerRun path = IsAnswerOver IsOfSet (λ limits f. sets.IsToldOf limits path f)
+IsSetAnswerRun path = IsAnswerOver IsOfSomeSet (λ limits f. IsToldOfSet limits path f)
 
 -- `explain`: some text is written whole, and no call fails; or one does; or memory was short, and nothing is written
 abbrev pub IsExplainRun : {A : Type 0} → Writes → Writes → Result A Failure → Type 0

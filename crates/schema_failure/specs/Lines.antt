@@ -5,7 +5,7 @@ use Rattle.std.specs.Fmt.{decimal, digits}
 use Rattle.std.specs.List.{flat_map}
 use Rattle.std.specs.Str.{chars}
 use Rattle.proto_base.specs.Kind.{name_of}
-use Rattle.proto_sets.specs.SetKind as sets
+use Rattle.proto_sets.specs.SetKinds as sets
 use Rattle.schema_failure.specs.declared.failure.Failure.{Failure}
 use Rattle.schema_failure.specs.declared.failure.Failure.TheVariants as failure
 
@@ -21,7 +21,7 @@ abbrev pub line_of : Failure → List ℕ
 line_of (failure.Source file line column kind) =
     shown_name (string_bytes file)
     ++ (codes ":" ++ (decimal line ++ (codes ":" ++ (decimal column ++ (codes ": " ++ name_of kind)))))
-line_of (failure.Set part kind) = shown_name (string_bytes part) ++ (codes ": " ++ sets.name_of kind)
+line_of (failure.Set file kind) = shown_name (string_bytes file) ++ (codes ": " ++ sets.name_of kind)
 line_of failure.Input = codes "device: input"
 line_of failure.Output = codes "device: output"
 line_of failure.Folder = codes "device: folder"

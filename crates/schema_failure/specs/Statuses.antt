@@ -10,7 +10,7 @@ use Rattle.schema_failure.specs.declared.failure.ExitStatus.TheVariants as statu
 -- a fault of the sources or of a set, a device that failed, or no memory
 abbrev pub status_of : Failure → ExitStatus
 status_of (failure.Source file line column kind) = status.Fault
-status_of (failure.Set part kind) = status.Fault
+status_of (failure.Set file kind) = status.Fault
 status_of failure.Input = status.Device
 status_of failure.Output = status.Device
 status_of failure.Folder = status.Device

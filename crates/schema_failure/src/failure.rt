@@ -73,9 +73,9 @@ pub enum Failure {
         column: u32,
         kind: Kind,
     },
-    /// A fault of a set of descriptors: what it is about, as users see it, and its kind.
+    /// A fault of a set of descriptors: the file that it is about, as users see it, and its kind.
     Set {
-        part: String,
+        file: String,
         kind: SetKind,
     },
     Input,
@@ -128,7 +128,7 @@ impl fmt::Display for Failure {
                 column,
                 kind,
             } => write!(f, "{}:{line}:{column}: {kind}", Shown(file.as_str())),
-            Failure::Set { part, kind } => write!(f, "{}: {kind}", Shown(part.as_str())),
+            Failure::Set { file, kind } => write!(f, "{}: {kind}", Shown(file.as_str())),
             Failure::Input => f.write_str("device: input"),
             Failure::Output => f.write_str("device: output"),
             Failure::Folder => f.write_str("device: folder"),

@@ -13,8 +13,7 @@ use Rattle.schema_compile.specs.Compiled.{IsCompiledTo}
 use Rattle.schema_compile.specs.Told.{IsToldOfFolder}
 use Rattle.schema_failure.specs.declared.failure.Failure.{Failure}
 use Rattle.schema_failure.specs.declared.failure.Failure.TheVariants as failure
-use Rattle.schema_set.specs.Sets as sets
-use Rattle.schema_set.specs.Sets.{IsOfSet}
+use Rattle.schema_set.specs.Sets.{IsOfSomeSet, IsToldOfSet}
 use Rattle.schema_sources.specs.Texts.{AreStandard, KnownSources}
 
 -- the line that says where it listens
@@ -61,4 +60,4 @@ IsServeRun known = IsServeOver (λ limits c. IsCompiledTo limits known c) (λ li
 
 -- over what the set at a path says, or its first fault
 abbrev pub IsSetServeRun : {A : Type 0} → List ℕ → List ℕ → Option ℕ → Writes → Writes → Result A Failure → Type 0
-IsSetServeRun path = IsServeOver IsOfSet (λ limits f. sets.IsToldOf limits path f)
+IsSetServeRun path = IsServeOver IsOfSomeSet (λ limits f. IsToldOfSet limits path f)

@@ -1,4 +1,4 @@
-use Rattle.proto_names.proofs.Common.{◌≡◌, ◌∙◌, ap, refl, map, IsPermutation, MatchOption, Option, None, Some, occurrences, all_of, table_of}
+use Rattle.proto_names.proofs.Common.{◌≡◌, ◌∙◌, ap, refl, length, map, IsPermutation, MatchOption, Option, None, Some, occurrences, all_of, table_of}
 use Rattle.proto_names.proofs.Built.{below_files}
 use Rattle.proto_names.proofs.Tabled.{all_services, all_shares, first_twice_of, in_shares, none_twice}
 use Rattle.proto_names.proofs.index.NameIndex.build_by.Goals as goal
@@ -46,4 +46,4 @@ returns-clause-indexed g c =
 
 pub invariant_of-result : goal.invariant_of-result
 invariant_of-result g c =
-    let it = returns-clause-indexed g c in (it.sound, (c.args.files.now, c.args.limits.now, it))
+    let it = returns-clause-indexed g c in (it.sound, (length c.args.files.now, occurrences c.args.files.now, c.args.limits.now, it))

@@ -3,4 +3,5 @@ use Rattle.proto_names.proofs.index.NameIndex.names_are_declared_once.Goals as g
 
 pub returns : goal.returns
 returns c =
-    rw c.self.view_is at (declared_once _ c.self.invariant.1.0 c.self.invariant.1.1 c.self.invariant.1.2)
+    rw c.self.view_is at (declared_once _ c.self.invariant.1.0 c.self.invariant.1.1 c.self.invariant.1.2
+    c.self.invariant.1.3)
