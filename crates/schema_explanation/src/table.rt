@@ -186,7 +186,7 @@ Where: the `(`.
 
     a.proto:2:20: CustomOption
 
-Cure: Keep such options in the sources of the tools that read them; they are not written to a descriptor here."#,
+Cure: `--skip-custom-options` compiles the sources as if such options were not there. With them, protoc or buf compile the sources."#,
         Topic::Kind(Kind::LeftOut) =>
             r#"A word of proto2 or of editions where it would begin a statement: `extend`, `extensions`, `group`, `required`, `weak`.
 
@@ -197,7 +197,7 @@ Where: that word.
 
     a.proto:2:13: LeftOut
 
-Cure: Leave out `required`, and `weak` after `import`; turn a `group` into a message and a field. `extend` and `extensions` declare custom options and fields of proto2: take them out with what uses them. Files of proto2 are for protoc."#,
+Cure: `--skip-custom-options` compiles the sources as if `extend`, and `weak` after `import`, were not there. Leave out `required`; turn a `group` into a message and a field. `extensions` is of proto2, whose files are for protoc."#,
         Topic::Kind(Kind::TooDeep) => r#"Messages stand in one another more than 64 deep.
 
 Where: the first token too deep.
@@ -256,7 +256,7 @@ Where: the first token of the option's name.
 
     a.proto:2:8: UnknownOption
 
-Cure: Look for a spelling mistake. `default` is of proto2: in proto3 a field that is not set has 0, false, or nothing in it. Features and other options that no table has are left out."#,
+Cure: Look for a spelling mistake. `default` is of proto2: in proto3 a field that is not set has 0, false, or nothing in it. Of descriptor.proto's options twelve are not in the list, as `lazy` and `cc_generic_services`: `--skip-custom-options` compiles the sources as if they were not there."#,
         Topic::Kind(Kind::OptionTwice) => r#"The element set this option before.
 
 Where: the first token of the option's name.
@@ -458,7 +458,7 @@ Where: the import's string.
 
     a.proto:2:8: ImportMissing
 
-Cure: Set `--root` to the folder from which imports are written, or name another one by `--include`. Nothing is bundled: `--include /usr/include` takes what is imported from an installed protobuf. `describe` reads one file alone: a file with imports is for `compile`. In a set no file has this name: `protoc --include_imports`, and `buf build`, write a set with all that its files import."#,
+Cure: Set `--root` to the folder from which imports are written, or name another one by `--include`. Nothing is bundled: `--include /usr/include` takes what is imported from an installed protobuf. `--skip-custom-options` leaves out imports of what is no source. `describe` reads one file alone: a file with imports is for `compile`. In a set no file has this name: `protoc --include_imports`, and `buf build`, write a set with all that its files import."#,
         Topic::Kind(Kind::ImportCycle) => r#"The file imports itself, or a file that reaches it.
 
 Where: the import's string.
