@@ -3,7 +3,7 @@
 ghost use Rattle.std.specs.Prelude.{◌≡◌, IfOk, IfSome, codes, map, option_map};
 ghost use Rattle.clap.specs.Matches.{first_value, found_of};
 ghost use Rattle.clap.specs.declared.parser.matches.ArgMatches.{ArgMatches};
-ghost use Rattle.schema_command_line.specs.Tasks.{AreConnections, AreCustomOptions, IsAsked, IsMode, IsPlan, IsSelection, IsTaskNamed, file_of, values_of};
+ghost use Rattle.schema_command_line.specs.Tasks.{AreConnections, AreCustomOptions, IsAsked, IsMode, IsOrigin, IsPlan, IsSelection, IsTaskNamed, file_of, values_of};
 
 use crate::words::whole_command;
 use clap::error::ErrorKind;
@@ -26,6 +26,15 @@ pub struct Selection<'a> {
     pub custom_options: CustomOptions,
 }
 
+/// What a run answers from.
+#[derive(Drop)]
+pub enum Origin<'a> {
+    /// Sources, which are compiled first.
+    Sources(Selection<'a>),
+    /// The `FileDescriptorSet` in a file of this path.
+    Set(&'a str),
+}
+
 /// What one run is to do.
 #[derive(Drop)]
 pub enum Task<'a> {
@@ -41,18 +50,18 @@ pub enum Task<'a> {
         selection: Selection<'a>,
         plan: Plan,
     },
-    /// Serve reflection over sources by HTTP, at an address and a port.
+    /// Serve reflection by HTTP, at an address and a port.
     Serve {
-        selection: Selection<'a>,
+        origin: Origin<'a>,
         listen: &'a str,
         plan: Plan,
         mode: Mode,
         /// How many connections are served; without a count there is no end.
         connections: Option<u64>,
     },
-    /// Answer the request body on the input over sources.
+    /// Answer the request body on the input.
     Answer {
-        selection: Selection<'a>,
+        origin: Origin<'a>,
         plan: Plan,
         mode: Mode,
     },
@@ -121,6 +130,16 @@ fn selection_of<'a>(alloc: Global, matches: &ArgMatches<'a>) -> Result<Selection
     })
 }
 
+/// What is answered from: a set, if the words have one, or sources.
+fn origin_of<'a>(alloc: Global, matches: &ArgMatches<'a>) -> Result<Origin<'a>, AllocError>
+    ensures { IfOk result (IsOrigin (found_of matches.now)) }
+{
+    match matches.get_str("set") {
+        Some(set) => Ok(Origin::Set(set)),
+        None => Ok(Origin::Sources(selection_of(alloc, matches)?)),
+    }
+}
+
 /// A mistake in the words, as `clap` tells it.
 fn mistake(alloc: Global, kind: ErrorKind, said: &str) -> Result<Error, AllocError> {
     let mut command = whole_command(alloc)?;
@@ -186,14 +205,14 @@ fn task_named<'a>(
             plan: plan_of(matches),
         },
         "serve" => Task::Serve {
-            selection: selection_of(alloc, matches)?,
+            origin: origin_of(alloc, matches)?,
             listen: matches.get_str("listen").unwrap_or(""),
             plan: plan_of(matches),
             mode: mode_of(matches),
             connections: connections_in(matches),
         },
         "answer" => Task::Answer {
-            selection: selection_of(alloc, matches)?,
+            origin: origin_of(alloc, matches)?,
             plan: plan_of(matches),
             mode: mode_of(matches),
         },

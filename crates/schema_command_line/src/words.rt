@@ -21,6 +21,25 @@ fn root_argument<'a>(alloc: Global) -> Arg<'a> {
         )
 }
 
+/// The root of a command that takes a set in its place.
+fn root_or_set_argument<'a>(alloc: Global) -> Result<Arg<'a>, AllocError> {
+    root_argument(alloc)
+        .required(false)
+        .required_unless_present("set")
+}
+
+fn set_argument<'a>(alloc: Global) -> Result<Arg<'a>, AllocError> {
+    let set = Arg::new(alloc, "set")
+        .long("set")
+        .value_name("FILE")
+        .help(
+            "in place of sources, the files of this FileDescriptorSet, as protoc --include_imports or buf build write it",
+        );
+    set.conflicts_with("root")?
+        .conflicts_with("include")?
+        .conflicts_with("files")
+}
+
 fn include_argument<'a>(alloc: Global) -> Arg<'a> {
     Arg::new(alloc, "include")
         .long("include")
@@ -73,17 +92,16 @@ fn with_argument<'a>(
     command?.arg(argument)
 }
 
-/// A command over sources, with the arguments that say which, and by how many workers.
-fn source_command<'a>(
+/// A command over sources, with the arguments that say which, of which this is the root, and by how many workers.
+fn command_with_root<'a>(
     alloc: Global,
     name: &'a str,
     about: &'a str,
+    root: Arg<'a>,
 ) -> Result<Command<'a>, AllocError> {
     let workers_help = "how many workers share the work, 1 to 64";
     let cut_help = "the most files that a worker takes at a time, 1 to 4096";
-    let command = Command::new(alloc, name)
-        .about(about)
-        .arg(root_argument(alloc));
+    let command = Command::new(alloc, name).about(about).arg(root);
     let command = with_argument(command, include_argument(alloc));
     let command = with_argument(command, skip_argument(alloc));
     let workers = count_argument(alloc, "workers", 64, "4", workers_help);
@@ -91,6 +109,25 @@ fn source_command<'a>(
     let cut = count_argument(alloc, "cut", 4096, "16", cut_help);
     let command = with_argument(command, cut);
     with_argument(command, files_argument(alloc))
+}
+
+/// A command over sources.
+fn source_command<'a>(
+    alloc: Global,
+    name: &'a str,
+    about: &'a str,
+) -> Result<Command<'a>, AllocError> {
+    command_with_root(alloc, name, about, root_argument(alloc))
+}
+
+/// A command over sources, or over a set.
+fn answering_command<'a>(
+    alloc: Global,
+    name: &'a str,
+    about: &'a str,
+) -> Result<Command<'a>, AllocError> {
+    let command = command_with_root(alloc, name, about, root_or_set_argument(alloc)?);
+    with_argument(command, set_argument(alloc)?)
 }
 
 fn output_argument<'a>(alloc: Global) -> Arg<'a> {
@@ -125,7 +162,7 @@ fn answer_command<'a>(alloc: Global) -> Result<Command<'a>, AllocError> {
     let about =
         "Reads the request body of a gRPC-Web reflection stream from standard input and writes the response body";
     with_argument(
-        source_command(alloc, "answer", about),
+        answering_command(alloc, "answer", about),
         repeat_argument(alloc),
     )
 }
@@ -148,7 +185,7 @@ fn connections_argument<'a>(alloc: Global) -> Arg<'a> {
 
 fn serve_command<'a>(alloc: Global) -> Result<Command<'a>, AllocError> {
     let about = "Serves gRPC reflection as gRPC-Web over HTTP/1.1, one connection after the other";
-    let command = source_command(alloc, "serve", about);
+    let command = answering_command(alloc, "serve", about);
     let command = with_argument(command, listen_argument(alloc));
     let command = with_argument(command, connections_argument(alloc));
     with_argument(command, repeat_argument(alloc))
