@@ -79,5 +79,6 @@ alike limits sources c d first second =
       services = one_sorted c.index.services d.index.services (λ k e h. indexed.sound.order k e (omega arith) h)
           (λ k e h. also.indexed.sound.order k e (omega arith) h) (λ f. all_services f r.descs limits c.index indexed
           ∙ sym (all_services f r.descs limits d.index also.indexed));
+      extensions = first.written.no_extensions ∙ sym second.written.no_extensions;
       limits = first.written.same_limits ∙ sym second.written.same_limits;
     }

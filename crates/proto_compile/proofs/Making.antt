@@ -103,13 +103,16 @@ written_of {sorted = sorted} {descs = descs} resolved short same_names names byt
   short = short;
   names = names ∙ ap (map name_of) same_names;
   bytes = bytes;
+  no_extensions = refl;
   same_limits = refl;
 }
 
-pub coherent : (limits : Limits) (sources : List Source) (files : List CompiledFile) (links : Linked) (index : Index)
-    → IsWritten limits sources (compilation limits files links index)
-    → IsCoherent (compilation limits files links index)
-coherent limits sources files links index is =
+pub coherent : (sources : List Source) (c : Compilation) → IsWritten c.limits sources c → IsCoherent c
+coherent sources c is =
+    let limits = c.limits in
+    let files = c.files in
+    let links = c.links in
+    let index = c.index in
     let analysed = is.resolved.analysed in
     let described = analysed.described in
     let indexed = analysed.indexed in
@@ -130,9 +133,12 @@ coherent limits sources files links index is =
       declared = declared_once index is.resolved.descs limits indexed;
       few_services = grind (arith, length_permutation, length-map, count_by-le-length, length-filter);
       short_services = index_short limits is.sorted is.resolved.descs index described.each indexed services;
+      extensions_rise = rw is.no_extensions (λ i j d before below. absurd (omega arith));
+      few_extensions = rw is.no_extensions (omega arith);
+      extensions_within = rw is.no_extensions (λ e has. absurd (let below = has.1 in omega arith));
     }
 
 pub sound : (limits : Limits) (sources : List Source) (c : Compilation) → IsCompiled limits sources c → IsSound c
 sound limits sources c is =
     let own : IsCompiled c.limits sources c = subst (λ l. IsCompiled l sources c) (sym is.written.same_limits) is in
-    record { coherent = coherent c.limits sources c.files c.links c.index own.written; within = own.within }
+    record { coherent = coherent sources c own.written; within = own.within }

@@ -1,5 +1,5 @@
 -- What sources are compiled to.
-use Rattle.std.specs.Prelude.{◌≡◌, ◌≤◌, List, length, map, All}
+use Rattle.std.specs.Prelude.{◌≡◌, ◌≤◌, List, [], length, map, All}
 use Rattle.proto_desc.specs.declared.file.FileDesc.{FileDesc}
 use Rattle.proto_base.specs.Limits.{limit_of}
 use Rattle.proto_base.specs.declared.limits.Limit.TheVariants as limit
@@ -21,6 +21,7 @@ pub record IsWritten (limits : Limits) (sources : List Source) (c : Compilation)
   pub short : All (IsShort limits) descs
   pub names : map file_name c.files ≡ map name_of sorted
   pub bytes : map file_bytes c.files ≡ map file_desc_bytes descs
+  pub no_extensions : c.extensions ≡ []
   pub same_limits : c.limits ≡ limits
 
 -- sources without a fault

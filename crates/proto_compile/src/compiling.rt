@@ -68,7 +68,7 @@ fn compilation_of(
         → IsWritten limits.now sources (compilation limits.now files links index)
         → IfErr result (TellsOf (IsLeastFault limits.now sources)) }
 {
-    let Some(compiled) = Compiled::new(files, links, index, limits) else {
+    let Some(compiled) = Compiled::new(alloc, files, links, index, limits) else {
         return Err(refusal(alloc, Pass::Set, "", START, Kind::SetTooLong));
     };
     Ok(compiled)

@@ -37,6 +37,7 @@ fn set_argument<'a>(alloc: Global) -> Result<Arg<'a>, AllocError> {
         );
     set.conflicts_with("root")?
         .conflicts_with("include")?
+        .conflicts_with("skip-custom-options")?
         .conflicts_with("files")
 }
 

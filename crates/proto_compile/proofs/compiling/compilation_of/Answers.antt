@@ -4,7 +4,8 @@ use Rattle.proto_compile.proofs.Making.{coherent}
 use Rattle.proto_compile.proofs.compiling.compilation_of.Goals as goal
 
 pub new-requires : goal.new-requires
-new-requires c = coherent c.args.limits.now c.requires.0 c.args.files c.args.links c.args.index c.requires.1
+new-requires c =
+    coherent c.requires.0 (compilation c.args.limits.now c.args.files c.args.links c.args.index) c.requires.1
 
 pub returns-in_default-clause-first : goal.returns-in_default-clause-first
 returns-in_default-clause-first c sources is =
