@@ -42,8 +42,7 @@ as_sources() {
 as_sources "$top/examples"
 as_sources "$top/tests/descriptors"
 mkdir empty && as_sources empty
-awk -f "$top/bench/sources.awk" -v files=60 -v folder="$folder/made" </dev/null 2>err || true
-[ ! -d made ] || as_sources made
+mkdir made && awk -v folder=made -v files=60 -f "$top/bench/sources.awk" && as_sources made
 
 # refused KIND WHAT: the set `bad.pb` is refused with this line.
 refused() {
@@ -66,11 +65,11 @@ file() {
 name_a='0a 07 61 2e 70 72 6f 74 6f'
 name_b='0a 07 62 2e 70 72 6f 74 6f'
 "$program" compile --root "$top/examples" --output whole.pb
-head -c -1 whole.pb >bad.pb && refused 'a set that is cut short' 'bad.pb: Malformed'
-{ file "$name_a"; file '0a 05 61'; } >bad.pb && refused 'a file that is cut short' 'bad.pb, file[1]: Malformed'
-{ file "$name_a 22 03 0a 02 41"; } >bad.pb && refused 'a message that is cut short' 'a.proto: Malformed'
-{ file "$name_a 0b 0c"; } >bad.pb && refused 'a group' 'a.proto: Malformed'
-file '12 01 70' >bad.pb && refused 'a file without a name' 'bad.pb, file[0]: FileUnnamed'
+head -c -1 whole.pb >bad.pb && refused 'a set that is cut short' 'bad.pb: MalformedSet'
+{ file "$name_a"; file '0a 05 61'; } >bad.pb && refused 'a file that is cut short' 'bad.pb, file[1]: MalformedFile'
+{ file "$name_a 22 03 0a 02 41"; } >bad.pb && refused 'a message that is cut short' 'a.proto: MalformedContents'
+{ file "$name_a 0b 0c"; } >bad.pb && refused 'a group' 'bad.pb, file[0]: MalformedFile'
+file '12 01 70' >bad.pb && refused 'a file without a name' 'bad.pb, file[0]: FileWithoutName'
 { file "$name_b"; file "$name_a"; file "$name_b"; } >bad.pb && refused 'two files of one name' 'b.proto: FileNameTwice'
 cat whole.pb whole.pb >bad.pb && refused 'two sets, joined' "$(grep -ao '[a-z/]*[.]proto' whole.pb | LC_ALL=C sort | head -n 1): FileNameTwice"
 file "$name_a 1a 07 62 2e 70 72 6f 74 6f" >bad.pb && refused 'an import that is missing' 'a.proto: ImportMissing'

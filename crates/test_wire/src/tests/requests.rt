@@ -11,7 +11,7 @@ static MESSAGES: [(&[u8], &str, &str, &str); 21] = [
     (b"\x1A\x07a.proto", "", "FileByName", "a.proto"),
     (b"\x1A\x00", "", "FileByName", ""),
     (b"\x22\x03q.X", "", "FileBySymbol", "q.X"),
-    (b"\x2A\x03\x0A\x01A", "", "FileByExtension", ""),
+    (b"\x2A\x03\x0A\x01A", "", "FileByExtension", "A"),
     (b"\x2A\x00", "", "FileByExtension", ""),
     (b"\x32\x01A", "", "ExtensionNumbers", "A"),
     (b"\x3A\x00", "", "ListServices", ""),
@@ -36,6 +36,21 @@ static MESSAGES: [(&[u8], &str, &str, &str); 21] = [
     (b"\x2A\x02\x08\x01", "", "FileByExtension", ""),
     (b"\x2A\x03\x12\x01\xFF", "", "FileByExtension", ""),
     (b"\x2A\x02\x10\x07", "", "FileByExtension", ""),
+];
+
+/// Requests for an extension, and of each the message and the number.
+static EXTENSIONS: [(&[u8], &str, u32); 5] = [
+    (b"\x2A\x05\x0A\x01A\x10\x64", "A", 100),
+    (b"\x2A\x02\x10\x07", "", 7),
+    // Of each field the last counts, and of the members the last.
+    (b"\x2A\x0A\x10\x01\x0A\x01A\x0A\x01B\x10\x02", "B", 2),
+    (b"\x2A\x03\x0A\x01A\x2A\x02\x10\x07", "", 7),
+    // The lower 32 bits.
+    (
+        b"\x2A\x0B\x10\xFF\xFF\xFF\xFF\xFF\xFF\xFF\xFF\xFF\x01",
+        "",
+        4_294_967_295,
+    ),
 ];
 
 /// What is no request.
@@ -64,7 +79,9 @@ fn asks(request: &Request, host: &str, wanted: &str, name: &str) -> bool {
     let (found, found_name) = match request.ask {
         Ask::FileByName(name) => ("FileByName", name),
         Ask::FileBySymbol(symbol) => ("FileBySymbol", symbol),
-        Ask::FileByExtension => ("FileByExtension", ""),
+        Ask::FileByExtension {
+            containing_type, ..
+        } => ("FileByExtension", containing_type),
         Ask::ExtensionNumbers(name) => ("ExtensionNumbers", name),
         Ask::ListServices => ("ListServices", ""),
         Ask::Nothing => ("Nothing", ""),
@@ -77,6 +94,28 @@ fn is_read(alloc: Global, message: &[u8], host: &str, wanted: &str, name: &str) 
     match read_request(alloc, message) {
         Ok(request) => asks(&request, host, wanted, name),
         Err(_) => false,
+    }
+}
+
+/// Whether a message asks for the extension of this number, of this message.
+fn asks_extension(alloc: Global, message: &[u8], wanted: &str, wanted_number: u32) -> bool {
+    match read_request(alloc, message) {
+        Ok(Request {
+            ask:
+                Ask::FileByExtension {
+                    containing_type,
+                    number,
+                },
+            ..
+        }) => containing_type == wanted && number == wanted_number,
+        _ => false,
+    }
+}
+
+#[test]
+fn extensions(rt: HostRuntime) {
+    for (message, wanted, number) in &EXTENSIONS {
+        assert!(rt; asks_extension(rt.alloc(), message, wanted, *number));
     }
 }
 
