@@ -1,2 +1,10 @@
-pub mod Walked
+pub mod FileByFile
+pub mod FileLeast
+pub mod LeastFault
+pub mod NamesFrom
+pub mod Naming
+pub mod OneSet
+pub mod SetLeast
+pub mod Sorting
 pub mod Unique
+pub mod Walked

@@ -1,6 +1,6 @@
 //! The files of a set: their names, and their order by these.
 
-ghost use Rattle.std.specs.Prelude.{◌≡◌, ◌≢◌, ◌×◌, ◌↔◌, ℕ, ◌+◌, ◌<◌, ◌≤◌, All, List, Err, IfErr, IfOk, IsTrue, MatchOption, Some, length, map, slice_get};
+ghost use Rattle.std.specs.Prelude.{◌≡◌, ◌≢◌, ◌↔◌, ℕ, ◌+◌, ◌<◌, ◌≤◌, All, List, Err, IfErr, IfOk, IsTrue, MatchOption, Some, length, map, slice_get};
 ghost use Rattle.proto_base.specs.Limits.{limit_of};
 ghost use Rattle.proto_base.specs.declared.limits.Limit.TheVariants as limit;
 ghost use Rattle.proto_compilation.specs.Compilation.{file_bytes};
@@ -81,7 +81,7 @@ fn files_in<'b>(
 
 /// Files by name; those of one name by their bytes.
 fn sorted<'b>(files: Vec<NamedBytes<'b>>) -> Result<Vec<NamedBytes<'b>>, AllocError>
-    ensures { IfOk result (λ sorted. AreSorted (files_of files.items) (files_of sorted.items)) }
+    ensures { IfOk result (λ sorted. AreSorted (files_of files.entry.items) (files_of sorted.items)) }
 {
     let mut files = files;
     files.sort()?;

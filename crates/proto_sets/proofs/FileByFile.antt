@@ -1,0 +1,74 @@
+-- What files declare, one after the other.
+use Rattle.std.proofs.Common.{◌≡◌, ◌∙◌, sym, ap, ℕ, zero, suc, ◌+◌, ◌<◌, List, [], ◌∷◌, ◌++◌, length, length-append, map, refl, arith, get_or, get_or-take, length-take, take, slice_get, Some, append-nil, append_assoc}
+use Rattle.std.proofs.lemmas.List.{map_push}
+use Rattle.std.proofs.lemmas.Option.{get_or_from_slice_get, slice_get_within}
+use Rattle.std.specs.List.{AllZip, filter_map}
+use Rattle.proto_compilation.specs.Compilation.{CompiledFile}
+use Rattle.proto_desc.specs.declared.file.FileDesc.{FileDesc}
+use Rattle.proto_names.specs.Occurrences.{Occurrence}
+use Rattle.proto_sets.specs.Says.{ExtensionAt, Said, said_extension}
+use Rattle.proto_sets.specs.SetSteps.{AreWalked}
+use Rattle.proto_sets.specs.Sets.{Contents, FileSays, SaysFile, extensions_from, head_of, names_from}
+use Rattle.proto_sets.proofs.NamesFrom.{names_of}
+use Rattle.proto_sets.proofs.OneSet.{zipped_at}
+
+zip_more : {X Y : Type 0} (R : X → Y → Type 0) (xs : List X) (ys : List Y) (x : X) (y : Y) → AllZip R xs ys → R x y
+    → AllZip R (xs ++ x ∷ []) (ys ++ y ∷ [])
+zip_more R [] [] x y all one = (one, tt)
+zip_more R (a ∷ xs) (b ∷ ys) x y all one = (all.0, zip_more R xs ys x y all.1 one)
+zip_more R [] (b ∷ ys) x y all one = absurd all
+zip_more R (a ∷ xs) [] x y all one = absurd all
+
+zip_length : {X Y : Type 0} (R : X → Y → Type 0) (xs : List X) (ys : List Y) → AllZip R xs ys → length xs ≡ length ys
+zip_length R [] [] all = refl
+zip_length R (a ∷ xs) (b ∷ ys) all = ap suc (zip_length R xs ys all.1)
+zip_length R [] (b ∷ ys) all = absurd all
+zip_length R (a ∷ xs) [] all = absurd all
+
+names_more : (first : ℕ) (cs : List Contents) (c : Contents)
+    → names_from first (cs ++ c ∷ []) ≡ names_from first cs ++ names_of (first + length cs) c
+names_more first [] c = let at : first + 0 ≡ first = omega arith in rw at (append-nil (names_of first c))
+names_more first (b ∷ cs) c =
+    let at : first + suc (length cs) ≡ first + 1 + length cs = omega arith in
+    rw at (ap (λ os. names_of first b ++ os) (names_more (first + 1) cs c)
+    ∙ sym (append_assoc (names_of first b) (names_from (first + 1) cs) (names_of (first + 1 + length cs) c)))
+
+extensions_more : (first : ℕ) (cs : List Contents) (c : Contents)
+    → extensions_from first (cs ++ c ∷ [])
+    ≡ extensions_from first cs ++ filter_map (said_extension (first + length cs)) c.said
+extensions_more first [] c =
+    let at : first + 0 ≡ first = omega arith in rw at (append-nil (filter_map (said_extension first) c.said))
+extensions_more first (b ∷ cs) c =
+    let at : first + suc (length cs) ≡ first + 1 + length cs = omega arith in
+    rw at (ap (λ os. filter_map (said_extension first) b.said ++ os) (extensions_more (first + 1) cs c)
+    ∙ sym (append_assoc (filter_map (said_extension first) b.said) (extensions_from (first + 1) cs)
+    (filter_map (said_extension (first + 1 + length cs)) c.said)))
+
+pub walked_none : (depth : ℕ) → AreWalked depth [] [] [] []
+walked_none depth = record { contents = []; each = tt; names_are = refl; extensions_are = refl; heads_are = refl }
+
+-- one more
+pub walked_more : (depth : ℕ) (fs : List CompiledFile) (f : CompiledFile) (names names' : List Occurrence)
+    (es es' : List ExtensionAt) (heads : List FileDesc) (c : Contents) (at : ℕ) → at ≡ length fs
+    → AreWalked depth fs names es heads → SaysFile depth f.bytes c → names' ≡ names ++ names_of at c
+    → es' ≡ es ++ filter_map (said_extension at) c.said
+    → AreWalked depth (fs ++ f ∷ []) names' es' (heads ++ c.head ∷ [])
+walked_more depth fs f names names' es es' heads c at stands so says put extended =
+    let cs = so.contents in
+    let size : 0 + length cs ≡ at = omega (arith, stands, zip_length (FileSays depth) fs cs so.each) in
+    record {
+      contents = cs ++ c ∷ [];
+      each = zip_more (FileSays depth) fs cs f c so.each says;
+      names_are = put ∙ rw (names_more 0 cs c, size, so.names_are) refl;
+      extensions_are = extended ∙ rw (extensions_more 0 cs c, size, so.extensions_are) refl;
+      heads_are = rw (map_push head_of cs c, so.heads_are) refl;
+    }
+
+-- each of the first files says something
+pub said_before : (depth : ℕ) (files : List CompiledFile) (n : ℕ) (cs : List Contents)
+    → AllZip (FileSays depth) (take n files) cs → (j : ℕ) (f : CompiledFile) → j < n → slice_get files j ≡ Some f
+    → (c : Contents) × SaysFile depth f.bytes c
+said_before depth files n cs each j f less stands =
+    let inside = slice_get_within files j f stands in
+    let at : get_or (take n files) j f ≡ f = get_or-take n files j f less ∙ get_or_from_slice_get files j f f stands in
+    zipped_at (FileSays depth) (take n files) cs j f each (omega (arith, length-take n files, less, inside), at)
