@@ -4,6 +4,7 @@ pub mod LeastFault
 pub mod NamesFrom
 pub mod Naming
 pub mod OneSet
+pub mod PassLeast
 pub mod SetLeast
 pub mod Sorting
 pub mod Unique
