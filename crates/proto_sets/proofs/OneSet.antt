@@ -14,6 +14,7 @@ use Rattle.wire_format.specs.Reading.{Value}
 use Rattle.proto_sets.specs.Elements.{number_in, text_in, text_of}
 use Rattle.proto_sets.specs.Heads.{IsHead, imports_from, package_by, paths_of}
 use Rattle.proto_sets.specs.Says.{Said, Say}
+use Rattle.proto_sets.specs.SetFaults.{name_at}
 use Rattle.proto_sets.specs.Sets.{AreByName, AreFilesIn, AreTexts, Contents, FileSays, HasName, IsNamedFile, SaysFile, SetSays, depth_of, head_of}
 use Rattle.proto_sets.proofs.Sorting.{one_order}
 use Rattle.proto_sets.proofs.Unique.{said_once}
@@ -129,3 +130,11 @@ zipped_at R (a ∷ xs) (b ∷ ys) (suc k) x all at = zipped_at R xs ys k x all.1
 pub named_each : {limits : Limits} {set : List ℕ} {fs : List CompiledFile} → AreByName limits set fs
     → All IsNamedFile fs
 named_each {fs = fs} is = All-permutation IsNamedFile is.placed fs is.all is.are.each
+
+-- the head of a file has its name
+pub head_name : {limits : Limits} {set : List ℕ} {files : List CompiledFile} {contents : List Contents}
+    → SetSays limits set files contents → (heads : List FileDesc) → heads ≡ map head_of contents → (a : ℕ)
+    → imports.name_at heads a ≡ name_at files a
+head_name {limits = limits} {files = files} {contents = contents} says heads same a =
+    rw same (ap (λ (names : List (List ℕ)). get_or names a [])
+    (sym (zipped_heads (depth_of limits) files contents (named_each says.by_name) says.each).1))

@@ -1,5 +1,5 @@
 -- The faults of imports, and of names of all files.
-use Rattle.std.proofs.Common.{◌≡◌, ◌⊎◌, ◌∙◌, sym, ap, ℕ, zero, suc, ◌+◌, ◌<◌, ◌≤◌, List, [], ◌∷◌, length, map, refl, arith, inl, inr, get_or, Contains}
+use Rattle.std.proofs.Common.{◌≡◌, ◌⊎◌, ◌∙◌, sym, ap, ℕ, zero, suc, ◌+◌, ◌<◌, ◌≤◌, List, [], ◌∷◌, length, map, refl, arith, inl, inr, get_or, All, Contains}
 use Rattle.std.proofs.lemmas.Bool.{cases_lt, cases_order}
 use Rattle.std.proofs.lemmas.List.{get_or_past, length-map}
 use Rattle.std.proofs.lemmas.List.Elements.{All-contains}
@@ -37,6 +37,13 @@ use Rattle.proto_sets.proofs.OneSet.{named_each, one_saying, zipped_heads}
 pub twice_inside : (os : List Occurrence) (o : Occurrence) → IsTwice os o → Contains os o
 twice_inside os o (a, (i, j, differ, first, second), clash) =
     (j, slice_get_within os j o second, get_or_from_slice_get os j o o second)
+
+pub repeated_inside : (limits : Limits) (os : List Occurrence) (a : ℕ) (place : Place) (n : ℕ)
+    → All (λ (o : Occurrence). o.file < n) os → IsRepeatedAmong os limits a place → a < n
+repeated_inside limits os a place n all repeated =
+    let (o, first, file, at) = repeated.twice in
+    let inside = All-contains (λ (p : Occurrence). p.file < n) os o all (twice_inside os o first.among) in
+    omega (arith, inside, file)
 
 -- an import that is bad is one of a file's
 pub bad_inside : (heads : List FileDesc) (a : ℕ) (place : Place) (what : Kind) → imports.IsBad heads a place what
