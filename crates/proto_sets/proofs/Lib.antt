@@ -4,6 +4,7 @@ pub mod LeastFault
 pub mod Making
 pub mod NamesFrom
 pub mod Naming
+pub mod OneReading
 pub mod OneSet
 pub mod PassLeast
 pub mod SetLeast
@@ -11,3 +12,4 @@ pub mod Sorting
 pub mod Tabled
 pub mod Unique
 pub mod Walked
+pub mod Within
