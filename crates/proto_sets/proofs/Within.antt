@@ -1,5 +1,5 @@
 -- The files of a set, spelled by the shortest varints, are no longer than the set.
-use Rattle.std.proofs.Common.{◌≡◌, ◌∙◌, sym, ap, ℕ, zero, suc, ◌+◌, ◌*◌, ◌<◌, ◌≤◌, List, [], ◌∷◌, ◌++◌, length, length-append, get_or, map, take, take_all, refl, arith, inl, inr, Bool, true, false, not, cond, filter, sum_by, Contains, ◌==◌, eqb-true, Option, Some, None, flat_map}
+use Rattle.std.proofs.Common.{◌≡◌, ◌∙◌, sym, ap, ℕ, zero, suc, ◌+◌, ◌*◌, ◌<◌, ◌≤◌, List, [], ◌∷◌, ◌++◌, length, length-append, get_or, map, take, take_all, refl, arith, inl, inr, Bool, true, false, not, cond, filter, sum_by, Contains, ◌==◌, eqb-true, eq-eqb, subst, Option, Some, None, flat_map}
 use Rattle.std.proofs.lemmas.List.{length-map, take_more}
 use Rattle.std.proofs.lemmas.List.Concat.{length-flat_map}
 use Rattle.std.proofs.lemmas.List.Filters.{sum_by-filter_both}
@@ -91,7 +91,7 @@ one_of_all P (x ∷ xs) a all has = elim (front_or_behind x xs a has) [
 ]
 
 term_le : (f : ℕ → ℕ) (xs : List ℕ) (a : ℕ) → Contains xs a → f a ≤ sum_by f xs
-term_le f xs a (k, below, is) = let most = get_or-le-sum_by f xs k a in rw is at most
+term_le f xs a (k, below, is) = let most = get_or-le-sum_by f xs k a below in rw is at most
 
 twice_not : (b : Bool) → b ≡ not (not b)
 twice_not true = refl
@@ -107,7 +107,8 @@ distinct_sum f (x ∷ xs) ys once all =
     let parts = sum_by-filter_both other same (λ y. twice_not (x == y)) f ys in
     let rest = distinct_sum f xs (filter other ys) once.1 (λ a has. contains_filter other ys a (all a (behind x xs a has))
     (ap not (one_of_all (λ y. (x == y) ≡ false) xs a once.0 has))) in
-    let one = term_le f (filter same ys) x (contains_filter same ys x (all x (front x xs)) ?) in
+    let one = term_le f (filter same ys) x (contains_filter same ys x (all x (front x xs))
+    (eq-eqb x x refl)) in
     omega (arith, sum_by-cons f x xs, parts, rest, one)
 
 positions : (texts : List (List ℕ)) (n : ℕ) → n ≤ length texts
@@ -116,7 +117,7 @@ positions texts zero h = refl
 positions texts (suc n) h =
     let next : suc n ≡ n + 1 = omega arith in
     let at : ℕ → List ℕ = λ a. get_or texts a [] in
-    rw next (map-range_with_len_more at 0 n n (omega arith)
+    subst (λ m. map at (range_with_len 0 m) ≡ take m texts) (sym next) (map-range_with_len_more at 0 n n (omega arith)
     ∙ ap (λ (ts : List (List ℕ)). ts ++ at n ∷ []) (positions texts n (omega (arith, h)))
     ∙ sym (take_more texts n [] (omega (arith, h))))
 
