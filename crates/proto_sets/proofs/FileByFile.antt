@@ -1,5 +1,5 @@
 -- What files declare, one after the other.
-use Rattle.std.proofs.Common.{◌≡◌, ◌∙◌, sym, ap, ℕ, zero, suc, ◌+◌, ◌<◌, List, [], ◌∷◌, ◌++◌, length, length-append, map, refl, arith, get_or, get_or-take, length-take, take, slice_get, Some, append-nil, append_assoc}
+use Rattle.std.proofs.Common.{◌≡◌, ◌∙◌, sym, ap, ℕ, suc, ◌+◌, ◌<◌, List, [], ◌∷◌, ◌++◌, length, map, refl, arith, get_or, get_or-take, length-take, take, slice_get, Some, append-nil, append_assoc}
 use Rattle.std.proofs.lemmas.List.{get_or-map, length-map, map_push, take_more}
 use Rattle.std.proofs.lemmas.Option.{get_or_from_slice_get, slice_get-get_or, slice_get_within}
 use Rattle.std.specs.List.{AllZip, filter_map}

@@ -1,22 +1,19 @@
 -- The faults of files: names that stand twice, contents, and full names that are too long.
-use Rattle.std.proofs.Common.{◌≡◌, ◌≢◌, ◌⊎◌, ◌∙◌, sym, ap, subst, ℕ, zero, suc, ◌+◌, ◌-◌, ◌<◌, ◌≤◌, List, [], ◌∷◌, ◌++◌, length, map, refl, arith, inl, inr, get_or, slice_get, All, Contains, IsPermutation, Option, Some, None}
+use Rattle.std.proofs.Common.{◌≡◌, ◌∙◌, sym, ap, subst, ℕ, ◌+◌, ◌<◌, ◌≤◌, List, length, map, refl, arith, inl, inr, get_or}
 use Rattle.std.proofs.lemmas.Bool.{cases_lt, cases_order}
-use Rattle.std.proofs.lemmas.Bool.Decides.{nat_tests}
-use Rattle.std.proofs.lemmas.List.{get_or-map, get_or_default, length-map}
+use Rattle.std.proofs.lemmas.List.{length-map}
 use Rattle.std.proofs.lemmas.List.Elements.{All-contains}
-use Rattle.std.proofs.lemmas.List.Sorted.{Contains-permutation, IsPermutation-sym}
+use Rattle.std.proofs.lemmas.List.Sorted.{IsPermutation-sym}
 use Rattle.std.proofs.lemmas.Option.{get_or_from_slice_get, slice_get_read, slice_get_within}
-use Rattle.proto_base.specs.Limits.{limit_of}
-use Rattle.proto_base.specs.declared.limits.Limit.TheVariants as limit
 use Rattle.proto_base.specs.declared.limits.Limits.{Limits}
 use Rattle.proto_compilation.specs.Compilation.{CompiledFile, file_name}
 use Rattle.proto_links.proofs.NameRows.{names_differ}
 use Rattle.proto_names.specs.Occurrences.{Occurrence}
-use Rattle.proto_sets.specs.SetFaults.{Breaks, Fault, IsLeastFault, IsNoLater, long_name, name_at, no_contents, of_file, repeated_file}
+use Rattle.proto_sets.specs.SetFaults.{Breaks, Fault, IsLeastFault, long_name, name_at, no_contents, of_file, repeated_file}
 use Rattle.proto_sets.specs.SetSteps.{AreNamed, AreSorted, IsFirstLong, IsFirstRepeated, IsFirstSilent}
-use Rattle.proto_sets.specs.Sets.{AreByName, AreFilesIn, Contents, FileSays, IsShortName, SaysFile, SetSays, depth_of, names_from}
+use Rattle.proto_sets.specs.Sets.{AreByName, AreFilesIn, Contents, FileSays, IsShortName, SetSays, depth_of, names_from}
 use Rattle.proto_sets.specs.declared.fault.SetKind.TheVariants as kind
-use Rattle.proto_sets.proofs.LeastFault.{IsFirst, NoneBefore, file_order, least_of, name_order, no_later_itself}
+use Rattle.proto_sets.proofs.LeastFault.{IsFirst, NoneBefore, file_order, least_of, name_order}
 use Rattle.proto_sets.proofs.NamesFrom.{files_rise, names_inside}
 use Rattle.proto_sets.proofs.OneSet.{named_each, one_by_name, one_placed, one_saying, zipped_at, zipped_heads}
 use Rattle.proto_sets.proofs.SetLeast.{none_of_files}
@@ -121,8 +118,10 @@ module _ (limits : Limits) (set : List ℕ) where
             | inl before ↦ (let short = first.before j o before stands in absurd (omega (arith, short, over)))
             | inr most ↦ most
           ] in
-          let up : d.file ≤ o.file = rw (get_or_from_slice_get names first.at d d first.stands,
-          get_or_from_slice_get names j o d stands) at (files_rise 0 contents first.at j d most below) in
+          let up : d.file ≤ o.file = rw (
+            get_or_from_slice_get names first.at d d first.stands,
+            get_or_from_slice_get names j o d stands,
+          ) at (files_rise 0 contents first.at j d most below) in
           let in_files = (All-contains (λ (p : Occurrence). (0 ≤ p.file) × (p.file < 0 + length contents)) names o
           (names_inside 0 contents) inside).1 in
           let size = (zipped_heads (depth_of limits) files contents (named_each says.by_name) says.each).0 in

@@ -1,6 +1,6 @@
 -- The least fault of a set: the least of the first pass that finds any. A set that has passed breaks no rule.
-use Rattle.std.proofs.Common.{◌≡◌, ◌≢◌, ◌∙◌, sym, ap, subst, ℕ, ◌+◌, ◌<◌, ◌≤◌, List, [], length, map, refl, arith, ◌⊎◌, inl, inr, Result, Ok, Err, IfErr, Ordering, Greater, nat_cmp, if◌then◌else◌, ◌==◌}
-use Rattle.std.proofs.lemmas.Bool.{cases_lt, cases_order}
+use Rattle.std.proofs.Common.{◌≡◌, ◌≢◌, ◌∙◌, sym, subst, ℕ, ◌<◌, ◌≤◌, List, length, map, refl, arith, ◌⊎◌, inl, inr, Result, IfErr, Ordering, Greater, nat_cmp, if◌then◌else◌, ◌==◌}
+use Rattle.std.proofs.lemmas.Bool.{cases_order}
 use Rattle.std.proofs.lemmas.Bool.Decides.{nat_tests}
 use Rattle.std.proofs.lemmas.Cmp.{nat_list_cmp_total, tied_itself}
 use Rattle.std.proofs.lemmas.List.{length-map}
@@ -8,12 +8,11 @@ use Rattle.std.proofs.lemmas.Map.Lookups.{exact_bytes}
 use Rattle.std.proofs.lemmas.Result.{IfErr-weaker}
 use Rattle.std.specs.Cmp.Lexicographic.{slice_cmp}
 use Rattle.std.specs.Ordering.{ordering_then}
-use Rattle.proto_base.specs.Least.{IsLeastBy}
 use Rattle.proto_base.specs.NameOrder.{NamesRise}
 use Rattle.proto_base.specs.declared.limits.Limits.{Limits}
 use Rattle.proto_compilation.specs.Compilation.{CompiledFile, file_name}
 use Rattle.proto_links.proofs.NameRows.{rise_far}
-use Rattle.proto_sets.specs.SetFaults.{Breaks, Fault, IsFault, IsLeastFault, IsNoLater, TellsOf, at_position, name_at, number_of, of_file, pass_of}
+use Rattle.proto_sets.specs.SetFaults.{Breaks, Fault, IsLeastFault, IsNoLater, TellsOf, at_position, name_at, number_of, of_file, pass_of}
 use Rattle.proto_sets.specs.SetSteps.{Tells}
 use Rattle.proto_sets.specs.declared.fault.SetError.{SetError}
 use Rattle.proto_sets.specs.declared.fault.SetKind.{SetKind}

@@ -1,5 +1,5 @@
 -- What a set is read as is coherent.
-use Rattle.std.proofs.Common.{◌≡◌, ◌∙◌, sym, ap, subst, ℕ, ◌<◌, ◌≤◌, List, map, length, arith, refl, All, Contains, filter}
+use Rattle.std.proofs.Common.{◌≡◌, ap, ℕ, ◌<◌, ◌≤◌, List, map, length, arith, refl, All, Contains, filter}
 use Rattle.std.proofs.lemmas.List.{length-map}
 use Rattle.std.proofs.lemmas.List.Elements.{All-contains, All-filter, All-map}
 use Rattle.std.proofs.lemmas.List.Sorted.{All-permutation, length_permutation}

@@ -1,5 +1,5 @@
 -- The names in files: their files do not fall.
-use Rattle.std.proofs.Common.{◌≡◌, ◌∙◌, sym, ap, ℕ, zero, suc, ◌+◌, ◌-◌, ◌<◌, ◌≤◌, List, [], ◌∷◌, ◌++◌, length, map, refl, arith, inl, inr, get_or, All, Option, Some, None}
+use Rattle.std.proofs.Common.{◌≡◌, ℕ, ◌+◌, ◌-◌, ◌<◌, ◌≤◌, List, [], ◌∷◌, ◌++◌, length, map, refl, arith, inl, inr, get_or, All, Option, Some, None}
 use Rattle.std.proofs.lemmas.Bool.{cases_lt}
 use Rattle.std.proofs.lemmas.List.{get_or_append_left, get_or-append_right}
 use Rattle.std.proofs.lemmas.List.Elements.{All-append, All-map, All-nil}
@@ -7,7 +7,7 @@ use Rattle.std.proofs.Common.{length-append}
 use Rattle.proto_desc.specs.declared.file.PackageDescriptor.{PackageDescriptor}
 use Rattle.proto_names.specs.Occurrences.{Occurrence, package_occurrence, package_occurrences}
 use Rattle.proto_names.specs.Scopes.{prefixes}
-use Rattle.proto_sets.specs.Says.{Said, said_occurrence}
+use Rattle.proto_sets.specs.Says.{said_occurrence}
 use Rattle.proto_sets.specs.Sets.{Contents, names_from}
 
 -- what occurs in one file

@@ -34,8 +34,14 @@ pub named_more : (fs : List NamedBytes) (f : NamedBytes) (texts : List (Bor (Lis
     → map file_bytes (files_of (fs ++ f ∷ [])) ≡ take (k + 1) (map text_by texts)
 named_more fs f texts k d below so same =
     let size : k < length (map text_by texts) = omega (arith, below, length-map texts text_by) in
-    rw (map_push file_of fs f, map_push file_bytes (files_of fs) (file_of f), so, same,
-    take_more (map text_by texts) k (text_by d) size, get_or-map text_by texts k d (text_by d) below) refl
+    rw (
+      map_push file_of fs f,
+      map_push file_bytes (files_of fs) (file_of f),
+      so,
+      same,
+      take_more (map text_by texts) k (text_by d) size,
+      get_or-map text_by texts k d (text_by d) below,
+    ) refl
 
 pub text_at : (texts : List (Bor (List ℕ))) (k : ℕ) (d : Bor (List ℕ)) → k < length texts
     → slice_get (map text_by texts) k ≡ Some (get_or texts k d).now

@@ -3,9 +3,8 @@ use Rattle.std.proofs.Common.{◌≡◌, refl, List, ℕ, Result, Ok, Err, IfErr
 use Rattle.proto_base.specs.declared.limits.Limits.{Limits}
 use Rattle.proto_compilation.specs.Compilation.{Compilation}
 use Rattle.proto_links.proofs.Unique.{one_set_order}
-use Rattle.proto_links.specs.Linked.{AreLinked}
 use Rattle.proto_sets.specs.SetFaults.{Fault, IsLeastFault, TellsOf, told_by}
-use Rattle.proto_sets.specs.Sets.{IsOfSet, head_of}
+use Rattle.proto_sets.specs.Sets.{IsOfSet}
 use Rattle.proto_sets.specs.declared.fault.SetError.{SetError}
 use Rattle.proto_sets.specs.declared.fault.SetError.TheVariants as errors
 use Rattle.proto_sets.specs.declared.set.ReadSet.{ReadSet}

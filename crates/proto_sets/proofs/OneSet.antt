@@ -1,8 +1,7 @@
 -- A set has one list of files, and each of them says one thing.
-use Rattle.std.proofs.Common.{◌≡◌, ◌≢◌, ◌∙◌, sym, ap, ap₂, subst, ℕ, zero, suc, ◌+◌, ◌<◌, List, [], ◌∷◌, length, get_or, map, refl, arith, All, None, IsPermutation}
+use Rattle.std.proofs.Common.{◌≡◌, ◌∙◌, sym, ap, ap₂, subst, ℕ, zero, suc, List, [], ◌∷◌, length, get_or, map, refl, arith, All, None, IsPermutation}
 use Rattle.std.proofs.lemmas.List.Sorted.{All-permutation}
 use Rattle.std.specs.List.{AllZip, filter_map}
-use Rattle.proto_base.specs.NameOrder.{NamesRise}
 use Rattle.proto_base.specs.Sets.{StandsAt}
 use Rattle.proto_base.specs.declared.limits.Limits.{Limits}
 use Rattle.proto_compilation.specs.Compilation.{CompiledFile, file_bytes, file_name}
@@ -11,9 +10,8 @@ use Rattle.proto_desc.specs.declared.file.FileDesc.{FileDesc}
 use Rattle.proto_links.specs.Imports as imports
 use Rattle.wire_format.proofs.ReadingRows.{one_list}
 use Rattle.wire_format.specs.Reading.{Value}
-use Rattle.proto_sets.specs.Elements.{number_in, text_in, text_of}
-use Rattle.proto_sets.specs.Heads.{IsHead, imports_from, package_by, paths_of}
-use Rattle.proto_sets.specs.Says.{Said, Say}
+use Rattle.proto_sets.specs.Elements.{text_in, text_of}
+use Rattle.proto_sets.specs.Heads.{IsHead}
 use Rattle.proto_sets.specs.SetFaults.{name_at}
 use Rattle.proto_sets.specs.Sets.{AreByName, AreFilesIn, AreTexts, Contents, FileSays, HasName, IsNamedFile, SaysFile, SetSays, depth_of, head_of}
 use Rattle.proto_sets.proofs.Sorting.{one_order}

@@ -1,21 +1,21 @@
 -- The files of a set, spelled by the shortest varints, are no longer than the set.
-use Rattle.std.proofs.Common.{◌≡◌, ◌∙◌, sym, ap, ℕ, zero, suc, ◌+◌, ◌*◌, ◌<◌, ◌≤◌, List, [], ◌∷◌, ◌++◌, length, length-append, get_or, map, take, take_all, refl, arith, inl, inr, Bool, true, false, not, cond, filter, sum_by, Contains, ◌==◌, eqb-true, eq-eqb, subst, Option, Some, None, flat_map}
+use Rattle.std.proofs.Common.{◌≡◌, ◌∙◌, sym, ap, ℕ, zero, suc, ◌+◌, ◌*◌, ◌<◌, ◌≤◌, List, [], ◌∷◌, ◌++◌, length, length-append, get_or, map, take, take_all, refl, arith, inl, inr, Bool, true, false, not, cond, filter, sum_by, Contains, ◌==◌, eqb-true, eq-eqb, subst, flat_map}
 use Rattle.std.proofs.lemmas.List.{length-map, take_more}
 use Rattle.std.proofs.lemmas.List.Concat.{length-flat_map}
 use Rattle.std.proofs.lemmas.List.Filters.{sum_by-filter_both}
 use Rattle.std.proofs.lemmas.List.FromFn.{get_or-range_with_len, length-range_with_len, map-range_with_len_more}
-use Rattle.std.proofs.lemmas.List.Sorted.{IsPermutation-map, length_permutation, sum_by-IsPermutation}
+use Rattle.std.proofs.lemmas.List.Sorted.{IsPermutation-map, sum_by-IsPermutation}
 use Rattle.std.proofs.lemmas.List.Sums.{get_or-le-sum_by, sum_by-cons}
 use Rattle.std.specs.List.{AllByRecursion, IsDistinct, cons_option, filter_map, range_with_len}
 use Rattle.proto_base.specs.declared.limits.Limits.{Limits}
-use Rattle.proto_compilation.specs.Compilation.{Compilation, CompiledFile, bytes_at, file_bytes, set_of}
+use Rattle.proto_compilation.specs.Compilation.{Compilation, file_bytes, set_of}
 use Rattle.proto_links.proofs.Rising.{behind, front, front_or_behind, none_in}
 use Rattle.proto_links.proofs.Whole.{whole_of}
 use Rattle.proto_sets.specs.Elements.{text_in}
 use Rattle.proto_sets.specs.Sets.{IsOfSet, depth_of, head_of}
 use Rattle.proto_sets.proofs.OneSet.{named_each, zipped_heads}
 use Rattle.wire_format.specs.Field.{bytes_field}
-use Rattle.wire_format.specs.Reading.{Body, IsBody, IsRow, IsSpelled, IsVarint, Spelled, Value, bytes, body_text, delimited, eight_bytes, entry_by, entry_of, four_bytes, number, text_of, varint_body, wire_type}
+use Rattle.wire_format.specs.Reading.{Body, IsBody, IsSpelled, IsVarint, Spelled, Value, bytes, body_text, delimited, eight_bytes, entry_by, entry_of, four_bytes, text_of, varint_body, wire_type}
 use Rattle.wire_format.specs.Varint.{varint_bytes}
 use Rattle.wire_format.proofs.Varints.{groups_shortest}
 
@@ -162,6 +162,12 @@ set_within limits set c is =
     let whole = whole_of (map head_of is.contents) c.links is.linked in
     let count = (zipped_heads (depth_of limits) c.files is.contents (named_each by_name) is.says.each).0 in
     let most = some_texts (map file_bytes c.files) c.links.set_order whole.each_once (λ a has.
-    omega (arith, (whole.every a).0 has, is.linked.count, length-map is.contents head_of, count,
-    length-map c.files file_bytes)) in
+    omega (
+      arith,
+      (whole.every a).0 has,
+      is.linked.count,
+      length-map is.contents head_of,
+      count,
+      length-map c.files file_bytes,
+    )) in
     omega (arith, long, size, listed, sorted, most)

@@ -129,11 +129,7 @@ pub(crate) fn files_by_name<'b>(
 {
     let files = sorted(files_in(alloc, set, limits)?)?;
     match first_repeated(&files) {
-        Some(at) => Err(refusal_of_file(
-            alloc,
-            SetKind::FileNameTwice,
-            files[at].name,
-        )),
+        Some(at) => Err(refusal_of_file(alloc, SetKind::FileNameTwice, files[at].name)),
         None => Ok(files),
     }
 }

@@ -55,11 +55,7 @@ pub struct ReadSet<'b> {
 }
 
 /// A set by the passes, as `read_set` has it.
-fn read_passes<'b>(
-    alloc: Global,
-    set: &'b [u8],
-    limits: &Limits,
-) -> Result<ReadSet<'b>, SetError>
+fn read_passes<'b>(alloc: Global, set: &'b [u8], limits: &Limits) -> Result<ReadSet<'b>, SetError>
     ensures read { IfOk result (λ r. IsOfSet limits.now set.now r.compiled) }
     ensures extensions { IfOk result (λ r. AreExtensionsOf limits.now set.now
         (map extension_of r.extensions.items)) }
@@ -85,11 +81,7 @@ fn read_passes<'b>(
 /// had none.
 ///
 /// The bytes of each file go into the compilation as they stand in the set.
-pub fn read_set<'b>(
-    alloc: Global,
-    set: &'b [u8],
-    limits: &Limits,
-) -> Result<ReadSet<'b>, SetError>
+pub fn read_set<'b>(alloc: Global, set: &'b [u8], limits: &Limits) -> Result<ReadSet<'b>, SetError>
     ensures read { IfOk result (λ r. IsOfSet limits.now set.now r.compiled) }
     ensures extensions { IfOk result (λ r. AreExtensionsOf limits.now set.now
         (map extension_of r.extensions.items)) }

@@ -1,4 +1,4 @@
-use Rattle.std.proofs.Common.{◌≡◌, ◌<◌, ◌∙◌, sym, ap, arith, get_or, length}
+use Rattle.std.proofs.Common.{◌≡◌, ◌<◌, sym, ap, arith, length}
 use Rattle.std.proofs.lemmas.Option.{get_or_from_slice_get, slice_get-get_or}
 use Rattle.proto_names.specs.Runs.{at, blank}
 use Rattle.proto_names.specs.declared.entry.Location.{Location}
@@ -23,7 +23,12 @@ returns-in-Some-clause-long c =
       o = o;
       stands = slice_get-get_or names k blank first.below;
       long = omega (arith, first.long, c.get.ensures.value);
-      before = λ j p less there. omega (arith, first.before j less, ap (λ q. length q.name)
-          (get_or_from_slice_get names j p blank there), c.get.ensures.value);
+      before = λ j p less there. omega (
+        arith,
+        first.before j less,
+        ap (λ q. length q.name)
+            (get_or_from_slice_get names j p blank there),
+        c.get.ensures.value,
+      );
       is = ap (of_file kind.NameTooLong) (rw file (sym (name_by file_of files o.file _ below)));
     })

@@ -1,4 +1,4 @@
-use Rattle.std.proofs.Common.{◌≡◌, arith, refl, List, ℕ}
+use Rattle.std.proofs.Common.{◌≡◌, arith, refl}
 use Rattle.std.proofs.lemmas.Grind.{common_steps}
 use Rattle.proto_sets.specs.SetFaults.{Fault, of_file}
 use Rattle.proto_sets.specs.Sets.{Contents, SaysFile}

@@ -1,4 +1,4 @@
-use Rattle.std.proofs.Common.{◌≡◌, ◌<◌, ◌≤◌, ◌∙◌, sym, ap, arith, length, map, rules}
+use Rattle.std.proofs.Common.{ap, arith, length, rules}
 use Rattle.std.proofs.lemmas.List.{length-map}
 use Rattle.proto_sets.specs.SetFaults.{IsLeastFault}
 use Rattle.proto_sets.specs.SetSteps.{IsFirstLong, IsFirstSilent, file_of, files_of}

@@ -1,8 +1,7 @@
-use Rattle.std.proofs.Common.{◌≡◌, arith, map, sym, ◌∙◌, ap}
+use Rattle.std.proofs.Common.{◌≡◌, arith, map}
 use Rattle.std.proofs.lemmas.Grind.{common_steps}
 use Rattle.wire_format.specs.ProgramFields.{field_of}
 use Rattle.wire_format.proofs.ReadingRows.{one_list}
-use Rattle.proto_sets.specs.Elements.{text_of}
 use Rattle.proto_sets.proofs.files.name_in.Goals as goal
 
 pub returns-in_err-fields-clause-malformed : goal.returns-in_err-fields-clause-malformed

@@ -1,7 +1,6 @@
 use Rattle.std.proofs.Common.{nat_cmp}
 use Rattle.std.proofs.lemmas.List.Sorted.{IsPermutation-map}
 use Rattle.std.specs.Cmp.Lexicographic.{slice_cmp}
-use Rattle.proto_compilation.specs.Compilation.{file_bytes, file_name}
 use Rattle.proto_names.proofs.Ordered.{first_not}
 use Rattle.proto_sets.specs.SetSteps.{file_of}
 use Rattle.proto_sets.proofs.Sorting.{sorted_names}

@@ -1,4 +1,4 @@
-use Rattle.std.proofs.Common.{◌≡◌, ◌<◌, ◌∙◌, ap, sym, arith, Err, length, map}
+use Rattle.std.proofs.Common.{◌≡◌, ◌∙◌, ap, sym, Err, length}
 use Rattle.proto_links.proofs.NameRows.{name_is}
 use Rattle.proto_sets.specs.SetFaults.{IsLeastFault, name_at, of_file, of_set}
 use Rattle.proto_sets.specs.declared.fault.SetKind.TheVariants as kind

@@ -1,8 +1,7 @@
-use Rattle.std.proofs.Common.{◌≡◌, ◌∙◌, ap, sym, Err, map}
+use Rattle.std.proofs.Common.{◌≡◌, ◌∙◌, ap, sym, Err}
 use Rattle.proto_links.proofs.NameRows.{name_is}
 use Rattle.proto_sets.specs.SetFaults.{IsLeastFault, name_at, of_file}
 use Rattle.proto_sets.specs.SetSteps.{import_kind}
-use Rattle.proto_sets.specs.Sets.{head_of}
 use Rattle.proto_sets.proofs.LeastFault.{told}
 use Rattle.proto_sets.proofs.OneSet.{head_name}
 use Rattle.proto_sets.proofs.PassLeast.{bad_inside, import_least}

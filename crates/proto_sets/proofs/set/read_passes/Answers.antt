@@ -1,8 +1,5 @@
-use Rattle.std.proofs.Common.{◌≡◌, map, rules}
-use Rattle.proto_compilation.specs.Parts.{compilation}
-use Rattle.proto_sets.specs.SaysSteps.{extension_of}
+use Rattle.std.proofs.Common.{rules}
 use Rattle.proto_sets.specs.SetSteps.{AreNamed, files_of}
-use Rattle.proto_sets.specs.Sets.{IsOfSet}
 use Rattle.proto_sets.proofs.Making.{heads_rise, names_among, read_by}
 use Rattle.proto_sets.proofs.set.read_passes.Goals as goal
 
@@ -36,12 +33,14 @@ compilation_of-requires c =
     let limits = c.args.limits.now in
     let set = c.args.set.now in
     let files = files_of c.in_ok-files.files.items in
-    let walked = rw c.deref.ensures.value at c.in_ok-found.ensures.walked in
-    (set, read_by limits set files c.in_ok-table.table _ _ _ c.in_ok-links.links c.in_ok-index.index
-    c.in_ok-files.ensures.files walked c.in_ok-found.ensures.short
-    (rw c.deref-2.ensures.value at c.in_ok-links.ensures.linked)
-    (rw c.deref-3.ensures.value at c.in_ok-index.ensures.indexed)
-    (rw c.deref-4.ensures.value at c.in_ok-table.ensures))
+    let walked = rw c.deref.ensures.value at c.in_ok-found.ensures.walked in (
+      set,
+      read_by limits set files c.in_ok-table.table _ _ _ c.in_ok-links.links c.in_ok-index.index
+          c.in_ok-files.ensures.files walked c.in_ok-found.ensures.short
+          (rw c.deref-2.ensures.value at c.in_ok-links.ensures.linked)
+          (rw c.deref-3.ensures.value at c.in_ok-index.ensures.indexed)
+          (rw c.deref-4.ensures.value at c.in_ok-table.ensures),
+    )
 
 pub returns-clause-read : goal.returns-clause-read
 returns-clause-read c =

@@ -1,4 +1,3 @@
-use Rattle.std.proofs.Common.{◌∙◌, ap, ◌++◌, ◌∷◌, []}
 use Rattle.proto_sets.proofs.Tabled.{named_differs, table_more}
 use Rattle.proto_sets.proofs.set.table_of.Goals as goal
 

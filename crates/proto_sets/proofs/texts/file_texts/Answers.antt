@@ -1,8 +1,6 @@
-use Rattle.std.proofs.Common.{◌≤◌, arith, length}
+use Rattle.std.proofs.Common.{arith}
 use Rattle.std.proofs.lemmas.List.{length-map}
 use Rattle.std.proofs.lemmas.Grind.{common_steps}
-use Rattle.proto_base.specs.Limits.{limit_of}
-use Rattle.proto_base.specs.declared.limits.Limit.TheVariants as limit
 use Rattle.proto_sets.specs.SetFaults.{IsLeastFault, of_set}
 use Rattle.proto_sets.specs.declared.fault.SetKind.TheVariants as kind
 use Rattle.proto_sets.proofs.LeastFault.{told}
