@@ -1,2 +1,15 @@
-pub mod Walked
+pub mod FileByFile
+pub mod FileLeast
+pub mod LeastFault
+pub mod Making
+pub mod NamesFrom
+pub mod Naming
+pub mod OneReading
+pub mod OneSet
+pub mod PassLeast
+pub mod SetLeast
+pub mod Sorting
+pub mod Tabled
 pub mod Unique
+pub mod Walked
+pub mod Within

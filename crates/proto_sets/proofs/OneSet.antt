@@ -1,9 +1,7 @@
 -- A set has one list of files, and each of them says one thing.
-use Rattle.std.proofs.Common.{◌≡◌, ◌≢◌, ◌∙◌, sym, ap, ap₂, subst, ℕ, zero, suc, ◌+◌, ◌<◌, List, [], ◌∷◌, length, get_or, map, refl, arith, absurd, All, None, Contains, IsPermutation}
-use Rattle.std.proofs.lemmas.List.{get_or_default, get_or-map, length-map}
-use Rattle.std.proofs.lemmas.List.Sorted.{Contains-permutation, IsPermutation-sym}
+use Rattle.std.proofs.Common.{◌≡◌, ◌∙◌, sym, ap, ap₂, subst, ℕ, zero, suc, List, [], ◌∷◌, length, get_or, map, refl, arith, All, None, IsPermutation}
+use Rattle.std.proofs.lemmas.List.Sorted.{All-permutation}
 use Rattle.std.specs.List.{AllZip, filter_map}
-use Rattle.proto_base.specs.NameOrder.{NamesRise}
 use Rattle.proto_base.specs.Sets.{StandsAt}
 use Rattle.proto_base.specs.declared.limits.Limits.{Limits}
 use Rattle.proto_compilation.specs.Compilation.{CompiledFile, file_bytes, file_name}
@@ -12,9 +10,9 @@ use Rattle.proto_desc.specs.declared.file.FileDesc.{FileDesc}
 use Rattle.proto_links.specs.Imports as imports
 use Rattle.wire_format.proofs.ReadingRows.{one_list}
 use Rattle.wire_format.specs.Reading.{Value}
-use Rattle.proto_sets.specs.Elements.{number_in, text_in, text_of}
-use Rattle.proto_sets.specs.Heads.{IsHead, imports_from, package_by, paths_of}
-use Rattle.proto_sets.specs.Says.{Said, Say}
+use Rattle.proto_sets.specs.Elements.{text_in, text_of}
+use Rattle.proto_sets.specs.Heads.{IsHead}
+use Rattle.proto_sets.specs.SetFaults.{name_at}
 use Rattle.proto_sets.specs.Sets.{AreByName, AreFilesIn, AreTexts, Contents, FileSays, HasName, IsNamedFile, SaysFile, SetSays, depth_of, head_of}
 use Rattle.proto_sets.proofs.Sorting.{one_order}
 use Rattle.proto_sets.proofs.Unique.{said_once}
@@ -34,8 +32,8 @@ one_name {text = text} first second =
 same_file : (f g : CompiledFile) → file_name f ≡ file_name g → file_bytes f ≡ file_bytes g → f ≡ g
 same_file f g name bytes = λ i. record { name = name i; bytes = bytes i }
 
-rest_of : {X : Type 0} {P : X → Type 0} (x : X) (xs : List X) → All P (x ∷ xs) → All P xs
-rest_of x xs all k d h = all (suc k) d (omega (arith, h))
+rest_of : (f : CompiledFile) (fs : List CompiledFile) → All IsNamedFile (f ∷ fs) → All IsNamedFile fs
+rest_of f fs all k d h = all (suc k) d (omega (arith, h))
 
 pub one_row : (fs gs : List CompiledFile) → map file_bytes fs ≡ map file_bytes gs → All IsNamedFile fs
     → All IsNamedFile gs → fs ≡ gs
@@ -129,4 +127,12 @@ zipped_at R (a ∷ xs) (b ∷ ys) (suc k) x all at = zipped_at R xs ys k x all.1
 
 pub named_each : {limits : Limits} {set : List ℕ} {fs : List CompiledFile} → AreByName limits set fs
     → All IsNamedFile fs
-named_each {fs = fs} is = ?
+named_each {fs = fs} is = All-permutation IsNamedFile is.placed fs is.all is.are.each
+
+-- the head of a file has its name
+pub head_name : {limits : Limits} {set : List ℕ} {files : List CompiledFile} {contents : List Contents}
+    → SetSays limits set files contents → (heads : List FileDesc) → heads ≡ map head_of contents → (a : ℕ)
+    → imports.name_at heads a ≡ name_at files a
+head_name {limits = limits} {files = files} {contents = contents} says heads same a =
+    rw same (ap (λ (names : List (List ℕ)). get_or names a [])
+    (sym (zipped_heads (depth_of limits) files contents (named_each says.by_name) says.each).1))

@@ -76,13 +76,27 @@ pub strictly : (placed files : List CompiledFile) → AreSorted placed files
 strictly placed files sorted differ =
     λ k h. grind (arith, length-map, exact_bytes, sorted.rises k, differ k)
 
--- files in an order that begins with the names
-pub sorted_names : (cmp : CompiledFile → CompiledFile → Ordering) (files : List CompiledFile)
-    → ((a b : CompiledFile) → is_lt (cmp a b) ≡ false → is_less (file_name a) (file_name b) ≡ false) → IsSorted cmp files
-    → (k : ℕ) → k + 1 < length files → slice_cmp nat_cmp (name_at files k) (name_at files (k + 1)) ≢ Greater
-sorted_names cmp files finer up k h =
-    let d = first_of files (k + 1) h in
-    grind (arith, name_is files k d, name_is files (k + 1) d, not_greater, finer, up k d)
+-- the name of what stands at a position, as a file
+pub name_by : {X : Type 0} (file_by : X → CompiledFile) (xs : List X) (k : ℕ) (d : X) → k < length xs
+    → name_at (map file_by xs) k ≡ file_name (file_by (get_or xs k d))
+name_by file_by xs k d h =
+    name_is (map file_by xs) k (file_by d) (omega (arith, h, length-map xs file_by))
+    ∙ ap file_name (get_or-map file_by xs k d (file_by d) h)
+
+-- in an order that begins with the names
+pub sorted_names : {X : Type 0} (file_by : X → CompiledFile) (cmp : X → X → Ordering) (xs : List X)
+    → ((a b : X) → is_lt (cmp a b) ≡ false → is_less (file_name (file_by a)) (file_name (file_by b)) ≡ false)
+    → IsSorted cmp xs → (k : ℕ) → k + 1 < length (map file_by xs)
+    → slice_cmp nat_cmp (name_at (map file_by xs) k) (name_at (map file_by xs) (k + 1)) ≢ Greater
+sorted_names file_by cmp xs finer up k h =
+    let below : k + 1 < length xs = omega (arith, h, length-map xs file_by) in
+    let d = first_of xs (k + 1) below in
+    let before : k < length xs = omega (arith, below) in
+    let one = name_by file_by xs k d before in
+    let two = name_by file_by xs (k + 1) d below in
+    let name : ℕ → List ℕ = λ i. file_name (file_by (get_or xs i d)) in
+    rw (one, two) (not_greater (name k) (name (k + 1)) (finer (get_or xs (k + 1) d) (get_or xs k d)
+    (up k d (omega arith) below)))
 
 -- of sorted files, none has a name less than that of one before it
 pub not_before : (placed files : List CompiledFile) (k j : ℕ) → AreSorted placed files → k ≤ j → j < length files

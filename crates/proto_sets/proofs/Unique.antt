@@ -1,5 +1,5 @@
 -- Bytes say one thing.
-use Rattle.std.proofs.Common.{◌≡◌, ◌∙◌, sym, ap, ap₂, subst, ℕ, zero, suc, List, [], ◌∷◌, ◌++◌, Option, None, Some, MatchOption}
+use Rattle.std.proofs.Common.{◌≡◌, ◌∙◌, sym, ap₂, subst, ℕ, zero, suc, List, [], ◌∷◌, ◌++◌, Option, None, Some, MatchOption}
 use Rattle.wire_format.proofs.ReadingRows.{one_list}
 use Rattle.wire_format.specs.Reading.{Value, number, bytes}
 use Rattle.proto_sets.specs.Elements.{element_in, scope_inside, text_of}

@@ -1,13 +1,13 @@
 -- What a walk over fields keeps.
-use Rattle.std.proofs.Common.{◌≡◌, ℕ, ◌+◌, ◌<◌, List, [], ◌∷◌, ◌++◌, length, drop, map, get_or, arith, refl, append_assoc, append-nil, ap, ◌∙◌, sym}
+use Rattle.std.proofs.Common.{◌≡◌, ℕ, ◌+◌, ◌<◌, List, [], ◌∷◌, ◌++◌, length, drop, map, get_or, arith, refl, append_assoc, append-nil, ◌∙◌, sym}
 use Rattle.std.proofs.lemmas.List.{drop_more}
-use Rattle.std.proofs.Common.{zero, suc, Option, None, Some, MatchOption, IsUtf8, subst, inl, inr, ◌⊎◌}
+use Rattle.std.proofs.Common.{zero, suc, Option, None, Some, MatchOption, IsUtf8, subst, inl, inr}
 use Rattle.std.proofs.lemmas.Option.{none-some, same_Some}
 use Rattle.wire_format.proofs.ReadingRows.{one_list}
 use Rattle.wire_format.specs.Reading.{Value, number, bytes, IsRow}
 use Rattle.proto_sets.specs.Elements.{element_in, scope_inside, text_of}
 use Rattle.proto_sets.specs.Says.{AllSay, FieldSays, Inside, IsElement, Said, Say, said_by}
-use Rattle.proto_sets.specs.SaysSteps.{HeldIn, HoldsNone, IsRead, IsReadable}
+use Rattle.proto_sets.specs.SaysSteps.{HoldsNone, IsRead, IsReadable}
 use Rattle.proto_sets.specs.declared.element.Element.{Element}
 
 module _ (Says : ℕ × Value → List Said → Type 0) where

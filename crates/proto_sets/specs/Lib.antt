@@ -1,4 +1,5 @@
 pub mod Elements
+pub mod HeadSteps
 pub mod Heads
 pub mod Says
 pub mod SaysSteps

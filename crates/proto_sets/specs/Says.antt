@@ -1,6 +1,6 @@
 -- What the bytes of a file's descriptor say: the names that it declares, and its extensions, by descriptor.proto and the
 -- encoding guide of Protocol Buffers, whatever the file's language is.
-use Rattle.std.specs.Prelude.{◌≡◌, ℕ, zero, suc, List, [], ◌∷◌, ◌++◌, ◌%◌, ◌^◌, map, Option, Some, None, MatchOption, IsUtf8}
+use Rattle.std.specs.Prelude.{◌≡◌, ℕ, zero, suc, List, [], ◌∷◌, ◌++◌, ◌%◌, ◌^◌, Option, Some, None, MatchOption, IsUtf8}
 use Rattle.proto_base.specs.declared.place.Place.{Place}
 use Rattle.proto_desc.specs.DeclaredNames.{Declared}
 use Rattle.proto_names.specs.Occurrences.{Occurrence, declared_occurrence}

@@ -7,7 +7,6 @@ use Rattle.proto_sets.specs.declared.extension.Extension.{Extension}
 use Rattle.proto_sets.specs.declared.reading.ReadElement.{ReadElement}
 use Rattle.wire_format.specs.ProgramFields.{field_of}
 use Rattle.wire_format.specs.Reading.{Value, number, bytes, IsRow}
-use Rattle.wire_format.specs.declared.reading.Field as rust
 
 -- an extension of the program
 abbrev pub extension_of : Extension → ExtensionAt

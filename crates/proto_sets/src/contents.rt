@@ -87,7 +87,7 @@ fn check_names(
     ensures short { OnOk result (All (IsShortName limits.now) names.now) }
     ensures long { IfErr result (TellsOf (IsFirstLong limits.now names.now (files_of files.now))) }
 {
-    match names.first_longer(limits.get(Limit::FullNameBytes)) {
+    match names.first_longer(limits.get(Limit::FullNameBytes) as usize) {
         Some(location) => Err(refusal_of_file(
             alloc,
             SetKind::NameTooLong,

@@ -1,6 +1,6 @@
 //! The files of a set: their names, and their order by these.
 
-ghost use Rattle.std.specs.Prelude.{◌≡◌, ◌≢◌, ◌×◌, ◌↔◌, ℕ, ◌+◌, ◌<◌, ◌≤◌, All, List, Err, IfErr, IfOk, IsTrue, MatchOption, Some, length, map, slice_get};
+ghost use Rattle.std.specs.Prelude.{◌≡◌, ◌≢◌, ◌↔◌, ℕ, ◌+◌, ◌<◌, ◌≤◌, All, List, Err, IfErr, IfOk, IsTrue, MatchOption, Some, length, map, slice_get};
 ghost use Rattle.proto_base.specs.Limits.{limit_of};
 ghost use Rattle.proto_base.specs.declared.limits.Limit.TheVariants as limit;
 ghost use Rattle.proto_compilation.specs.Compilation.{file_bytes};
@@ -81,7 +81,7 @@ fn files_in<'b>(
 
 /// Files by name; those of one name by their bytes.
 fn sorted<'b>(files: Vec<NamedBytes<'b>>) -> Result<Vec<NamedBytes<'b>>, AllocError>
-    ensures { IfOk result (λ sorted. AreSorted (files_of files.items) (files_of sorted.items)) }
+    ensures { IfOk result (λ sorted. AreSorted (files_of files.entry.items) (files_of sorted.items)) }
 {
     let mut files = files;
     files.sort()?;
@@ -129,11 +129,7 @@ pub(crate) fn files_by_name<'b>(
 {
     let files = sorted(files_in(alloc, set, limits)?)?;
     match first_repeated(&files) {
-        Some(at) => Err(refusal_of_file(
-            alloc,
-            SetKind::FileNameTwice,
-            files[at].name,
-        )),
+        Some(at) => Err(refusal_of_file(alloc, SetKind::FileNameTwice, files[at].name)),
         None => Ok(files),
     }
 }

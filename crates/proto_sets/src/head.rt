@@ -1,10 +1,11 @@
 //! What a file's descriptor says of the file itself.
 
-ghost use Rattle.std.specs.Prelude.{◌≡◌, Err, IfOk, IsUtf8, map};
+ghost use Rattle.std.specs.Prelude.{◌≡◌, ◌≤◌, ℕ, Err, IfOk, IsUtf8, List, length, map};
 ghost use Rattle.std.specs.List.{AllByRecursion, filter_map};
 ghost use Rattle.proto_desc.specs.declared.file.FileDesc.{FileDesc as Head};
 ghost use Rattle.proto_sets.specs.Elements.{number_in, text_of};
 ghost use Rattle.proto_sets.specs.Heads.{IsHead, imports_from, package_by, paths_of};
+ghost use Rattle.proto_sets.specs.HeadSteps.{AreFlags};
 ghost use Rattle.wire_format.specs.ProgramFields.{field_of};
 ghost use Rattle.proto_sets.specs.declared.error.ReadError.TheVariants as errors;
 
@@ -44,14 +45,29 @@ fn publics_of(alloc: Global, fields: &[Field]) -> Result<Vec<u64>, AllocError>
     Ok(publics)
 }
 
-/// The imports of a file, of which those at these positions are public.
+/// Of each position below a count, whether it is among some.
+fn flags_of(alloc: Global, positions: &[u64], count: usize) -> Result<Vec<bool>, AllocError>
+    ensures size { IfOk result (λ flags. length flags.items ≡ count) }
+    ensures told { IfOk result (λ flags. AreFlags positions.now flags.items) }
+{
+    let mut flags = vec![in alloc; false; count]?;
+    for position in positions {
+        if *position < count as u64 {
+            flags[*position as usize] = true;
+        }
+    }
+    Ok(flags)
+}
+
+/// The imports of a file, each with its flag, which says whether it is public.
 fn imports_of<'b>(
     alloc: Global,
     fields: &[Field<'b>],
-    publics: &[u64],
+    flags: &[bool],
 ) -> Result<Row<ImportDescriptor<'b>>, ReadError>
-    ensures imports { IfOk result (λ imports. imports
-        ≡ imports_from publics.now 0 (paths_of (map field_of fields.now))) }
+    requires { length fields.now ≤ length flags.now }
+    ensures imports { (publics : List ℕ) → AreFlags publics flags.now → IfOk result
+        (λ imports. imports ≡ imports_from publics 0 (paths_of (map field_of fields.now))) }
     ensures utf8 { IfOk result (λ _. AllByRecursion IsUtf8 (paths_of (map field_of fields.now))) }
     ensures malformed { result ≡ Err errors.Malformed
         → AllByRecursion IsUtf8 (paths_of (map field_of fields.now)) → ⊥ }
@@ -61,7 +77,7 @@ fn imports_of<'b>(
         if let FieldValue::Delimited(bytes) = field.value {
             if field.number == 3 {
                 let path = Text::borrowed(utf8(bytes)?);
-                let is_public = publics.contains(&(imports.len() as u64));
+                let is_public = flags[imports.len()];
                 imports.push(ImportDescriptor {
                     path,
                     place: START,
@@ -95,7 +111,8 @@ pub(crate) fn read_head<'b>(alloc: Global, fields: &[Field<'b>]) -> Result<FileD
     let name = utf8(last_text(fields, 1))?;
     let package = utf8(last_text(fields, 2))?;
     let publics = publics_of(alloc, fields)?;
-    let imports = imports_of(alloc, fields, &publics)?;
+    let flags = flags_of(alloc, &publics, fields.len())?;
+    let imports = imports_of(alloc, fields, &flags)?;
     Ok(FileDesc {
         name: Text::borrowed(name),
         package: package_of(package),

@@ -10,7 +10,7 @@ ghost use Rattle.proto_sets.specs.SetFaults.{IsLeastFault, TellsOf};
 ghost use Rattle.proto_sets.specs.SetSteps.{AreNamed, import_kind as kind_by};
 ghost use Rattle.proto_sets.specs.Sets.{Contents, head_of, names_from};
 
-use crate::fault::{SetError, SetKind, refusal, refusal_of_file, FaultyFile};
+use crate::fault::{FaultyFile, SetError, SetKind, refusal, refusal_of_file};
 use proto_base::{Kind, Limits};
 use proto_desc::file::FileDesc;
 use proto_links::{LinkError, Links, link};

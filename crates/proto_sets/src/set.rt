@@ -1,6 +1,6 @@
 //! Reading a set.
 
-ghost use Rattle.std.specs.Prelude.{◌≡◌, ⊥, ℕ, IfErr, IfOk, IsErrAnd, List, MatchResult, length, map};
+ghost use Rattle.std.specs.Prelude.{◌≡◌, ℕ, IfErr, IfOk, IsErrAnd, List, MatchResult, length, map};
 ghost use Rattle.proto_base.specs.NameOrder.{NamesRise};
 ghost use Rattle.proto_compilation.specs.Compilation.{Compilation, file_name};
 ghost use Rattle.proto_compilation.specs.Parts.{compilation};
@@ -11,11 +11,12 @@ ghost use Rattle.proto_sets.specs.SetSteps.{files_of};
 ghost use Rattle.proto_sets.specs.Sets.{AreExtensionsOf, IsOfSet};
 ghost use Rattle.proto_sets.specs.declared.fault.SetError.TheVariants as errors;
 
-use crate::contents::walk_files;
+use crate::contents::{Walked, walk_files};
 use crate::extension::Extension;
 use crate::fault::SetError;
 use crate::files::{NamedBytes, files_by_name};
 use crate::passes::{index_all, link_all};
+use crate::walking::Found;
 use proto_base::Limits;
 use proto_compilation::{Compiled, FileTable};
 use proto_links::Links;
@@ -54,24 +55,21 @@ pub struct ReadSet<'b> {
 }
 
 /// A set by the passes, as `read_set` has it.
-fn read_passes<'b>(
-    alloc: Global,
-    set: &'b [u8],
-    limits: &Limits,
-) -> Result<ReadSet<'b>, SetError>
+fn read_passes<'b>(alloc: Global, set: &'b [u8], limits: &Limits) -> Result<ReadSet<'b>, SetError>
     ensures read { IfOk result (λ r. IsOfSet limits.now set.now r.compiled) }
     ensures extensions { IfOk result (λ r. AreExtensionsOf limits.now set.now
         (map extension_of r.extensions.items)) }
     ensures first { IfErr result (TellsOf (IsLeastFault limits.now set.now)) }
 {
     let files = files_by_name(alloc, set, limits)?;
-    let walked = walk_files(alloc, &files, limits)?;
-    let links = link_all(alloc, &walked.heads)?;
-    let index = index_all(alloc, walked.found.names, &walked.heads, limits)?;
+    let Walked { found, heads } = walk_files(alloc, &files, limits)?;
+    let Found { names, extensions } = found;
+    let links = link_all(alloc, &heads)?;
+    let index = index_all(alloc, names, &heads, limits)?;
     let table = table_of(alloc, &files)?;
     Ok(ReadSet {
         compiled: compilation_of(table, links, index, limits),
-        extensions: walked.found.extensions,
+        extensions,
     })
 }
 
@@ -83,11 +81,7 @@ fn read_passes<'b>(
 /// had none.
 ///
 /// The bytes of each file go into the compilation as they stand in the set.
-pub fn read_set<'b>(
-    alloc: Global,
-    set: &'b [u8],
-    limits: &Limits,
-) -> Result<ReadSet<'b>, SetError>
+pub fn read_set<'b>(alloc: Global, set: &'b [u8], limits: &Limits) -> Result<ReadSet<'b>, SetError>
     ensures read { IfOk result (λ r. IsOfSet limits.now set.now r.compiled) }
     ensures extensions { IfOk result (λ r. AreExtensionsOf limits.now set.now
         (map extension_of r.extensions.items)) }

@@ -1,8 +1,8 @@
-use Rattle.std.proofs.Common.{◌≡◌, ◌<◌, All, length}
-use Rattle.proto_sets.proofs.files.put_files.Given as goal
+use Rattle.std.proofs.Common.{map, take}
+use Rattle.proto_sets.specs.SaysSteps.{extension_of}
+use Rattle.proto_sets.specs.SetSteps.{AreWalked, files_of}
+use Rattle.proto_sets.proofs.contents.put_files.Given as goal
 
-abbrev pub invariant-loop-k : goal.invariant-loop-k
-invariant-loop-k l = record {
-  inside : All (λ o. o.file < l.k) l.found.names;
-  count : length l.heads.items ≡ l.k;
-}
+abbrev pub invariant-loop-at : goal.invariant-loop-at
+invariant-loop-at l =
+    AreWalked l.depth (take l.at (files_of l.files)) l.found.names (map extension_of l.found.extensions.items) l.heads.items

@@ -1,4 +1,4 @@
-use Rattle.std.proofs.Common.{refl, arith, ◌∙◌, ap, Err}
+use Rattle.std.proofs.Common.{arith}
 use Rattle.std.proofs.lemmas.Grind.{common_steps}
 use Rattle.proto_sets.proofs.error.fields_in.Goals as goal
 

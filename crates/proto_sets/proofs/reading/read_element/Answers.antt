@@ -1,10 +1,8 @@
-use Rattle.std.proofs.Common.{◌≡◌, List, map, arith, refl}
+use Rattle.std.proofs.Common.{map, arith, refl}
 use Rattle.std.proofs.lemmas.Grind.{common_steps}
 use Rattle.wire_format.specs.ProgramFields.{field_of}
-use Rattle.wire_format.specs.Reading.{IsRow, Value}
+use Rattle.wire_format.specs.Reading.{IsRow}
 use Rattle.wire_format.proofs.ReadingRows.{one_list}
-use Rattle.proto_sets.specs.Elements.{element_in, text_of}
-use Rattle.proto_sets.specs.SaysSteps.{IsReadable}
 use Rattle.proto_sets.proofs.Walked.{unreadable}
 use Rattle.proto_sets.proofs.reading.read_element.Goals as goal
 

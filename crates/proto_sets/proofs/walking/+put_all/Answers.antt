@@ -1,4 +1,4 @@
-use Rattle.std.proofs.Common.{◌≡◌, ◌++◌, ◌∷◌, [], List, map, arith, drop, ℕ, ◌-◌, ◌+◌, refl, append_assoc, Option, Some, None}
+use Rattle.std.proofs.Common.{◌≡◌, ◌++◌, ◌∷◌, [], List, map, arith, ℕ, ◌-◌, refl, append_assoc, Option, Some, None}
 use Rattle.std.proofs.lemmas.Grind.{common_steps}
 use Rattle.std.proofs.lemmas.List.{drop_all}
 use Rattle.std.specs.List.{filter_map}
@@ -6,8 +6,7 @@ use Rattle.proto_names.specs.Occurrences.{Occurrence}
 use Rattle.std.proofs.lemmas.List.Elements.{filter_map-append}
 use Rattle.proto_names.specs.Entries.{IsScopeAmong, scope_name}
 use Rattle.wire_format.specs.ProgramFields.{field_of}
-use Rattle.proto_sets.specs.Says.{ExtensionAt, FieldSays, Inside, Said, Say, said_by, said_extension, said_occurrence}
-use Rattle.proto_sets.specs.SaysSteps.{extension_of}
+use Rattle.proto_sets.specs.Says.{ExtensionAt, Inside, Said, said_by, said_extension, said_occurrence}
 use Rattle.proto_sets.proofs.Walked.{element_here, inside_here, inside_say, none_here, readable_here, say_inside, so_far_all}
 use Rattle.proto_sets.proofs.walking.+put_all.Goals as goal
 use Rattle.proto_sets.proofs.walking.+put_all.Goals.{in-Some+else-depth-eq0+in_ok-inside+in_ok-put_all, in_default}

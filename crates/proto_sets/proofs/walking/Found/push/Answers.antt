@@ -1,14 +1,10 @@
-use Rattle.std.proofs.Common.{◌≡◌, ◌++◌, ◌∷◌, [], map, arith, List, Option, Some, None, option_map, refl, ℕ}
-use Rattle.std.specs.List.{cons_option}
+use Rattle.std.proofs.Common.{◌≡◌, arith, List, refl, ℕ}
 use Rattle.std.proofs.lemmas.Grind.{common_steps}
 use Rattle.proto_names.specs.Entries.{scope_name}
-use Rattle.wire_format.specs.ProgramFields.{field_of}
 use Rattle.proto_desc.specs.DeclaredNames.{scoped}
 use Rattle.proto_sets.specs.Elements.{scope_inside}
 use Rattle.proto_sets.specs.declared.element.Element.{Element}
 use Rattle.proto_sets.specs.declared.element.Element.TheVariants.{Message, Enumeration, Service, Method, Field, Extension, Oneof, Value as EnumValue}
-use Rattle.proto_sets.specs.Says.{said_by, said_extension}
-use Rattle.proto_sets.specs.SaysSteps.{extension_of}
 use Rattle.proto_sets.proofs.walking.Found.push.Goals as goal
 use Rattle.proto_sets.proofs.walking.Found.push.Goals.{in-Some+in_ok-push, in_default}
 
