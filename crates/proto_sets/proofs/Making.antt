@@ -62,6 +62,9 @@ coherent limits set c is =
         length-filter,
       );
       short_services = services_short limits names (length c.files) c.index is.short_names is.indexed;
+      extensions_rise = rw is.no_extensions (λ i j d before below. absurd (omega arith));
+      few_extensions = rw is.no_extensions (omega arith);
+      extensions_within = rw is.no_extensions (λ e has. absurd (let below = has.1 in omega arith));
     })
 
 -- what the passes give is of the set
@@ -82,6 +85,7 @@ read_by limits set files table names extensions heads links index by_name walked
       linked = rw walked.heads_are at linked;
       indexed = rw (count, walked.names_are) at indexed;
       same_limits = refl;
+      no_extensions = refl;
     })
 
 -- and their names rise

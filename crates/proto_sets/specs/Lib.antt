@@ -4,5 +4,6 @@ pub mod Heads
 pub mod Says
 pub mod SaysSteps
 pub mod SetFaults
+pub mod SetKinds
 pub mod SetSteps
 pub mod Sets

@@ -99,6 +99,7 @@ pub record IsOfSet (limits : Limits) (set : List ℕ) (c : Compilation) : Type 0
   pub linked : AreLinked (map head_of contents) c.links
   pub indexed : IndexesNames (length c.files) (names_from 0 contents) limits c.index
   pub same_limits : c.limits ≡ limits
+  pub no_extensions : c.extensions ≡ []
 
 -- its extensions, in the order in which they are declared
 abbrev pub AreExtensionsOf : Limits → List ℕ → List ExtensionAt → Type 0

@@ -4,9 +4,11 @@ ghost use Rattle.proto_sets.specs.SetFaults.{told_of};
 ghost use Rattle.proto_sets.specs.SetSteps.{Tells};
 ghost use Rattle.proto_sets.specs.SetFaults.{of_file};
 ghost use Rattle.proto_sets.specs.declared.fault.SetError.TheVariants as errors;
-ghost use Rattle.std.specs.Prelude.{◌≡◌};
+ghost use Rattle.proto_sets.specs.SetKinds.{name_of};
+ghost use Rattle.std.specs.Prelude.{◌≡◌, Some};
 
 use std::alloc::{AllocError, AllocFailed, Global};
+use std::fmt;
 use thiserror::Error;
 
 /// What is wrong with a set. A later pass looks only at what has passed the earlier ones.
@@ -37,6 +39,36 @@ pub enum SetKind {
     TooManyNames,
     /// Pass 9: a full name stands for two things.
     NameTwice,
+}
+
+impl SetKind {
+    /// The kind's name, as users read it.
+    pub fn name(self) -> &'static str
+        ensures { result.now ≡ name_of self }
+    {
+        match self {
+            SetKind::SetTooLong => "SetTooLong",
+            SetKind::MalformedSet => "MalformedSet",
+            SetKind::TooManyFiles => "TooManyFiles",
+            SetKind::MalformedFile => "MalformedFile",
+            SetKind::FileWithoutName => "FileWithoutName",
+            SetKind::FileNameTwice => "FileNameTwice",
+            SetKind::MalformedContents => "MalformedContents",
+            SetKind::NameTooLong => "NameTooLong",
+            SetKind::ImportMissing => "ImportMissing",
+            SetKind::ImportCycle => "ImportCycle",
+            SetKind::TooManyNames => "TooManyNames",
+            SetKind::NameTwice => "NameTwice",
+        }
+    }
+}
+
+impl fmt::Display for SetKind {
+    ghost output = { λ kind. Some (name_of kind) };
+
+    fn fmt<W: fmt::Write>(&self, f: &mut fmt::Formatter<W>) -> fmt::Result {
+        f.write_str(self.name())
+    }
 }
 
 /// The file in which a fault is.

@@ -36,11 +36,17 @@ fn table_of(alloc: Global, files: &[NamedBytes]) -> Result<FileTable, AllocError
 }
 
 /// The compilation of these, which are a set's: it is no longer than the set.
-fn compilation_of(files: FileTable, links: Links, index: NameIndex, limits: &Limits) -> Compiled
+fn compilation_of(
+    alloc: Global,
+    files: FileTable,
+    links: Links,
+    index: NameIndex,
+    limits: &Limits,
+) -> Compiled
     requires { (set : List ℕ) × IsOfSet limits.now set (compilation limits.now files links index) }
     ensures { result ≡ compilation limits.now files links index }
 {
-    match Compiled::new(files, links, index, limits) {
+    match Compiled::new(alloc, files, links, index, limits) {
         Some(compiled) => compiled,
         None => unreachable!(),
     }
@@ -68,7 +74,7 @@ fn read_passes<'b>(alloc: Global, set: &'b [u8], limits: &Limits) -> Result<Read
     let index = index_all(alloc, names, &heads, limits)?;
     let table = table_of(alloc, &files)?;
     Ok(ReadSet {
-        compiled: compilation_of(table, links, index, limits),
+        compiled: compilation_of(alloc, table, links, index, limits),
         extensions,
     })
 }
