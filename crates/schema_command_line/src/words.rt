@@ -4,7 +4,7 @@ use clap::{Arg, ArgAction, Command, value_parser};
 use std::alloc::{AllocError, Global};
 
 /// The version that `--version` prints: the program's, and the logic in which it is proved, which several kits have.
-static VERSION: &str = "1.1.0, logic dac8208d650f15bf";
+static VERSION: &str = "1.2.0, logic dac8208d650f15bf";
 
 /// What `--help` says last.
 static STATUSES: &str =
