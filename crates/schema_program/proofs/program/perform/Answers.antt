@@ -1,25 +1,31 @@
-use Rattle.std.proofs.Common.{None}
 use Rattle.schema_commands.specs.Runs.{IsAnswerRun, IsCompileRun, IsDescribeRun}
 use Rattle.schema_program.proofs.Ending.{ends_sound}
 use Rattle.schema_serve.specs.Runs.{IsServeRun}
+use Rattle.schema_sources.specs.Texts.{unknown}
 use Rattle.schema_program.proofs.program.perform.Goals as goal
 
 pub returns-in-Compile : goal.returns-in-Compile
 returns-in-Compile g c =
     let writes = g.O.CountedWrite.writes in
     rw c.in-Compile.is
-    (ends_sound (λ done. IsCompileRun None c.in-Compile.file (writes c.args.output.now)
-    (writes c.run_compile.new.writer) done)
-    c.run_compile.result c.sound.result c.sound.ensures c.run_compile.ensures)
+    (ends_sound (λ done. IsCompileRun (unknown c.in-Compile.selection.custom_options) c.in-Compile.file
+    (writes c.args.output.now) (writes c.run_compile.new.writer) done)
+    c.run_compile.result c.sound.result c.sound.ensures
+    (rw c.folder_of-folder.ensures at c.run_compile.ensures))
+
+pub returns-in-Check : goal.returns-in-Check
+returns-in-Check g c = rw c.in-Check.is (rw c.folder_of-folder-in-Check.ensures at c.run_check.ensures)
 
 pub returns-in-Answer : goal.returns-in-Answer
 returns-in-Answer g c =
     let reads = g.I.CountedRead.reads in
     let writes = g.O.CountedWrite.writes in
     rw c.in-Answer.is
-    (ends_sound (λ done. IsAnswerRun None c.in-Answer.mode (reads c.args.input.now) (reads c.run_answer.new.reader)
-    (writes c.args.output.now) (writes c.run_answer.new.writer) done)
-    c.run_answer.result c.sound-in-Answer.result c.sound-in-Answer.ensures c.run_answer.ensures)
+    (ends_sound (λ done. IsAnswerRun (unknown c.in-Answer.selection.custom_options) c.in-Answer.mode
+    (reads c.args.input.now) (reads c.run_answer.new.reader) (writes c.args.output.now)
+    (writes c.run_answer.new.writer) done)
+    c.run_answer.result c.sound-in-Answer.result c.sound-in-Answer.ensures
+    (rw c.folder_of-folder-in-Answer.ensures at c.run_answer.ensures))
 
 pub returns-in-Describe : goal.returns-in-Describe
 returns-in-Describe g c =
@@ -34,6 +40,7 @@ pub returns-in-Serve : goal.returns-in-Serve
 returns-in-Serve g c =
     let writes = g.O.CountedWrite.writes in
     rw c.in-Serve.is
-    (ends_sound (λ done. IsServeRun None c.in-Serve.listen.now c.in-Serve.connections (writes c.args.output.now)
-    (writes c.run_serve.new.output) done)
-    c.run_serve.result c.sound-in-Serve.result c.sound-in-Serve.ensures c.run_serve.ensures)
+    (ends_sound (λ done. IsServeRun (unknown c.in-Serve.selection.custom_options) c.in-Serve.listen.now
+    c.in-Serve.connections (writes c.args.output.now) (writes c.run_serve.new.output) done)
+    c.run_serve.result c.sound-in-Serve.result c.sound-in-Serve.ensures
+    (rw c.folder_of-folder-in-Serve.ensures at c.run_serve.ensures))
