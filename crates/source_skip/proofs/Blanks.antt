@@ -93,5 +93,5 @@ without_more gone spans i d old now new same within so_far next =
     let t : Spelled = record { start = d.start; end = d.end; lexeme = punctuation 0 } in
     let l : i < length gone = omega (arith, within, ap length same, length-map gone span_of) in
     let g : get_or spans i d ≡ span_of (get_or gone i t) =
-        ap (λ xs. get_or xs i d) same ∙ get_or-map span_of gone i t d l in
+    ap (λ xs. get_or xs i d) same ∙ get_or-map span_of gone i t d l in
     rw (next, so_far, g, take_more gone i t l) (without_push 0 (take i gone) (get_or gone i t) old)

@@ -134,8 +134,12 @@ short_by ts (Some us) k l h = let e : k ≡ length us = cc in omega (arith, e, t
 
 pub pushed_within : (closes new : List (Option ℕ)) (left : Option ℕ) (ts : List Spelled) → ClosesFrom closes left ts
     → new ≡ closes ++ left ∷ [] → (k : ℕ) → left ≡ Some k → k < length new
-pushed_within closes new left ts from pushed k h = rw pushed (omega (arith, from.counted, length_push closes left,
-  short_by ts (closed 0 ts) k (closed_tail 0 ts) (sym h ∙ from.here_left)))
+pushed_within closes new left ts from pushed k h = rw pushed (omega (
+  arith,
+  from.counted,
+  length_push closes left,
+  short_by ts (closed 0 ts) k (closed_tail 0 ts) (sym h ∙ from.here_left),
+))
 
 -- ---- one place before
 

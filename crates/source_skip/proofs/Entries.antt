@@ -166,8 +166,13 @@ pub next_shorter : {A : Type 0} (f : A → Spelled) (xs setting : List A) (s : B
     (ts : Bor (List A)) → MatchOption o (length xs ≡ 0) (λ p. IsFirstAndRest xs p.0.now p.1.now)
     → p ≡ Some (s, ts) → IsTail (map f xs) (map f ts.now)
     → option_map_or (λ p. length p.1.now + 1) o 0 < option_map_or (λ p. length p.1.now + 1) p 0
-next_shorter f xs setting s o p ts h e k = rw e (omega (arith, next_len xs o h, tail_within (map f xs) (map f ts.now) k,
-  length-map xs f, length-map ts.now f))
+next_shorter f xs setting s o p ts h e k = rw e (omega (
+  arith,
+  next_len xs o h,
+  tail_within (map f xs) (map f ts.now) k,
+  length-map xs f,
+  length-map ts.now f,
+))
 
 pub push_mapped : {A B : Type 0} (f : A → B) (xs new : List A) (x : A) → new ≡ xs ++ x ∷ []
     → map f new ≡ map f xs ++ f x ∷ []

@@ -182,5 +182,5 @@ pub front_smaller : (o p : Option rust.Front) (f : rust.Front)
 front_smaller None p f h e = rw e (omega arith)
 front_smaller (Some g) p f h e =
     let r : IsRest (map spelled g.rest.now) (map spelled f.rest.now) =
-        rest_front f.starts (map spelled f.rest.now) (spelled_front g) h in
+    rest_front f.starts (map spelled f.rest.now) (spelled_front g) h in
     rw e (omega (arith, r.shorter, length-map g.rest.now spelled, length-map f.rest.now spelled))

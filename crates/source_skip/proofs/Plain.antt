@@ -1,13 +1,13 @@
 -- What has nothing to skip stays as it is.
-use Rattle.std.specs.Prelude.{◌≡◌, ℕ, zero, suc, Bool, true, false, not, ◌&&◌, ◌||◌, cond, codes, List, [], ◌∷◌, ◌++◌, length, take, drop, Option, None, Some, option_map, option_and_then, unwrap_or}
-use Rattle.std.proofs.Common.{refl, arith, sym, ap, ◌∙◌}
+use Rattle.std.specs.Prelude.{◌≡◌, ℕ, zero, suc, Bool, true, false, ◌&&◌, ◌||◌, cond, codes, List, [], ◌∷◌, ◌++◌, length, Option, None, Some, option_map, option_and_then, unwrap_or}
+use Rattle.std.proofs.Common.{refl}
 use Rattle.std.specs.Option.{option_or}
 use Rattle.proto_syntax.specs.Grammar.{OneOf, NoneOf, AnyString, fits}
 use Rattle.proto_tokens.specs.Token.{Spelled}
 use Rattle.source_skip.specs.Laws.{IsPlain, begins_gone}
 use Rattle.source_skip.specs.Pieces.{loose_tokens}
 use Rattle.source_skip.specs.Shapes.{Shape, One, ◌⨾◌, Braces, Optional, behind, full, is_symbol, leaving, leaving_name, option_statement, extend_statement, statement, staying, symbol, unwritten, unwritten_of_fields, value, weak, word}
-use Rattle.source_skip.specs.Skipped.{Brackets, Entry, Front, all_go, before, brackets, brackets_front, entry_by, entry_of, front_of, goes, goes_from, gone_later, gone_of, gone_within, skipped, start_front, statement_front, token_front, weak_front, with_entry}
+use Rattle.source_skip.specs.Skipped.{Brackets, Entry, Front, all_go, before, brackets, brackets_front, entry_of, front_of, goes, goes_from, gone_later, gone_within, skipped, start_front, token_front, with_entry}
 use Rattle.source_skip.proofs.Behind.{IsTail, here, later}
 use Rattle.source_skip.proofs.Blanks.{without_none}
 use Rattle.source_skip.proofs.Entries.{EntryTail, entry_tail}

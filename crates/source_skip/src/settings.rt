@@ -64,7 +64,7 @@ pub(crate) fn brackets<'t, 's>(
     requires { IsClosing closes.now (map spelled tokens.now) }
     ensures { IfOk result
         (λ found. option_map (λ b. brackets_of b.0.items (map spelled b.1.now)) found
-            ≡ spec.brackets (length (map spelled tokens.now)) 91 (map spelled tokens.now)) }
+        ≡ spec.brackets (length (map spelled tokens.now)) 91 (map spelled tokens.now)) }
 {
     let mut entries = Vec::new(alloc);
     let mut mark = b'[';

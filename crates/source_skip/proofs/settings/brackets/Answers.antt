@@ -37,9 +37,11 @@ loop-next-smaller c = next_shorter spelled c.in-Some-entry_behind.entry.rest.now
 
 pub loop-next-preserved : goal.loop-next-preserved
 loop-next-preserved c =
-    rw (next_tokens spelled c.in-Some-entry_behind.entry.rest.now c.split_first-next-in-Some.result c.split_first-next-in-Some.ensures.cases,
-    push_mapped entry_of c.loop-next.entries.items c.push.new.self.items c.in-Some-entry_behind.entry
-    c.in_ok-push.ensures.items) (settings_more c.args.closes.now (map spelled c.args.tokens.now)
+    rw (
+      next_tokens spelled c.in-Some-entry_behind.entry.rest.now c.split_first-next-in-Some.result c.split_first-next-in-Some.ensures.cases,
+      push_mapped entry_of c.loop-next.entries.items c.push.new.self.items c.in-Some-entry_behind.entry
+          c.in_ok-push.ensures.items,
+    ) (settings_more c.args.closes.now (map spelled c.args.tokens.now)
     (map entry_of c.loop-next.entries.items) c.loop-next.mark (spelled c.in-Some.separator.now)
     (map spelled c.in-Some.setting.now) (rw c.in-Some.is at c.loop-next.invariant)
     (entry_of c.in-Some-entry_behind.entry) (sym c.is_symbol.ensures ∙ c.if-not-is_symbol.false)
