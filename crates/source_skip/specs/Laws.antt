@@ -9,8 +9,8 @@ use Rattle.source_skip.specs.Shapes.{is_symbol, unwritten, unwritten_of_fields}
 abbrev pub is_line_end : ℕ → Bool
 is_line_end b = b == 10
 
--- Two tokens in a row with which something that goes may begin: `option` before `(` or a name that no table has, `extend`
--- before a name, `import weak`, and `[` or a comma before `(` or a name that no table has.
+-- Two tokens in a row with which something that goes may begin: `option` before `(` or a name that no table has,
+-- `extend` before a name, `import weak`, and `[` or a comma before `(` or a name that no table has.
 abbrev pub begins_gone : Spelled → Spelled → Bool
 begins_gone a b =
     (fits (OneOf (codes "option" ∷ [])) a.lexeme && (is_symbol (byte "(") b || fits (OneOf unwritten) b.lexeme))

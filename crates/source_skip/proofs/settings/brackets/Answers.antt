@@ -6,7 +6,10 @@ use Rattle.source_skip.proofs.settings.brackets.Goals as goal
 
 pub loop-next-init : goal.loop-next-init
 loop-next-init c =
-    rw (c.new-entries.ensures.items, next_tokens spelled c.args.tokens.now c.split_first-next.result c.split_first-next.ensures.cases)
+    rw (
+      c.new-entries.ensures.items,
+      next_tokens spelled c.args.tokens.now c.split_first-next.result c.split_first-next.ensures.cases,
+    )
     (settings_start c.args.closes.now (map spelled c.args.tokens.now) c.requires)
 
 pub returns-then-not-is_symbol : goal.returns-then-not-is_symbol
@@ -38,7 +41,8 @@ loop-next-smaller c = next_shorter spelled c.in-Some-entry_behind.entry.rest.now
 pub loop-next-preserved : goal.loop-next-preserved
 loop-next-preserved c =
     rw (
-      next_tokens spelled c.in-Some-entry_behind.entry.rest.now c.split_first-next-in-Some.result c.split_first-next-in-Some.ensures.cases,
+      next_tokens spelled c.in-Some-entry_behind.entry.rest.now c.split_first-next-in-Some.result
+          c.split_first-next-in-Some.ensures.cases,
       push_mapped entry_of c.loop-next.entries.items c.push.new.self.items c.in-Some-entry_behind.entry
           c.in_ok-push.ensures.items,
     ) (settings_more c.args.closes.now (map spelled c.args.tokens.now)
