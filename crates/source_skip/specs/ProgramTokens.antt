@@ -5,14 +5,14 @@ use Rattle.std.specs.Int.{is_in_range}
 use Rattle.std.specs.Str.{byte}
 use Rattle.proto_tokens.specs.Token.{Lexeme, identifier, number, string_literal, punctuation, Spelled}
 use Rattle.source_skip.specs.Shapes.{Shape, behind, closed, unwritten, unwritten_of_fields}
-use Rattle.source_skip.specs.declared.token.Kind.{Kind}
-use Rattle.source_skip.specs.declared.token.Kind.TheVariants as kind
+use Rattle.source_skip.specs.declared.token.TokenKind.{TokenKind}
+use Rattle.source_skip.specs.declared.token.TokenKind.TheVariants as kind
 use Rattle.source_skip.specs.declared.token.Span.{Span}
 use Rattle.source_skip.specs.declared.token.Token.{Token}
 use Rattle.source_skip.specs.declared.words.Position.{Position}
 use Rattle.source_skip.specs.declared.words.Position.TheVariants as position
 
-abbrev pub lexeme_of_kind : Kind → Lexeme
+abbrev pub lexeme_of_kind : TokenKind → Lexeme
 lexeme_of_kind (kind.Identifier word) = identifier word.now
 lexeme_of_kind kind.Number = number 0
 lexeme_of_kind (kind.Text bytes) = string_literal bytes.now

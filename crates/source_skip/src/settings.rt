@@ -113,7 +113,7 @@ fn push_entry(spans: &mut Vec<Span>, entry: &Entry, separated: bool) -> Result<(
 
 /// Adds the spans of what goes of settings of which one stays. With one that goes the comma before it goes; of one that stays
 /// this comma goes where none before it stays. The bracket stays.
-pub(crate) fn push_gone(spans: &mut Vec<Span>, entries: &[Entry]) -> Result<(), AllocError>
+pub(crate) fn push_settings(spans: &mut Vec<Span>, entries: &[Entry]) -> Result<(), AllocError>
     ensures { OnOk result (spans.new.items
         ≡ spans.old.items ++ map span_of (spec.gone_within (map entry_of entries.now))) }
 {

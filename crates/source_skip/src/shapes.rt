@@ -7,7 +7,7 @@ ghost use Rattle.source_skip.specs.Shapes as spec;
 ghost use Rattle.source_skip.specs.Shapes.{One, Optional};
 
 use crate::braces::braces;
-use crate::token::{Kind, Token};
+use crate::token::{Token, TokenKind};
 use crate::words::{Position, is_unwritten};
 
 pub(crate) fn symbol<'t, 's>(tokens: &'t [Token<'s>], symbol: u8) -> Option<&'t [Token<'s>]>
@@ -45,7 +45,7 @@ fn value_word<'t, 's>(tokens: &'t [Token<'s>]) -> Option<&'t [Token<'s>]>
     let (token, rest) = tokens.split_first()?;
     matches!(
         token.kind,
-        Kind::Identifier(_) | Kind::Number | Kind::Symbol(b'.' | b'-' | b'+')
+        TokenKind::Identifier(_) | TokenKind::Number | TokenKind::Symbol(b'.' | b'-' | b'+')
     )
     .then_some(rest)
 }
@@ -56,7 +56,7 @@ fn unwritten_word<'t, 's>(tokens: &'t [Token<'s>], position: Position) -> Option
 {
     let (token, rest) = tokens.split_first()?;
     match token.kind {
-        Kind::Identifier(name) if is_unwritten(position, name) => Some(rest),
+        TokenKind::Identifier(name) if is_unwritten(position, name) => Some(rest),
         _ => None,
     }
 }
@@ -67,7 +67,7 @@ fn written_word<'t, 's>(tokens: &'t [Token<'s>], position: Position) -> Option<&
 {
     let (token, rest) = tokens.split_first()?;
     match token.kind {
-        Kind::Identifier(name) if !is_unwritten(position, name) => Some(rest),
+        TokenKind::Identifier(name) if !is_unwritten(position, name) => Some(rest),
         _ => None,
     }
 }
