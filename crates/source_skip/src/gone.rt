@@ -6,7 +6,7 @@ ghost use Rattle.source_skip.specs.ProgramTokens.{IsClosing, span_of, spelled};
 ghost use Rattle.source_skip.specs.Skipped as spec;
 
 use crate::braces::closing_places;
-use crate::settings::{Entry, all_go, before, brackets, push_settings, push_spans};
+use crate::settings::{Brackets, Entry, all_go, before, next_brackets, push_settings, push_spans};
 use crate::shapes::{statement, text, word};
 use crate::token::{Span, Token};
 use std::alloc::{AllocError, Global};
@@ -66,7 +66,7 @@ fn brackets_front<'t, 's>(
     ensures { IfOk result
         (λ found. option_map front_of found ≡ spec.brackets_front (map spelled tokens.now)) }
 {
-    let Some((entries, rest)) = brackets(alloc, tokens, closes)? else {
+    let Some(Brackets { entries, rest }) = next_brackets(alloc, tokens, closes)? else {
         return Ok(None);
     };
     let gone = if all_go(&entries) {

@@ -2,7 +2,7 @@ use Rattle.std.proofs.Common.{sym, ◌∙◌, map}
 use Rattle.source_skip.specs.ProgramSettings.{entry_of}
 use Rattle.source_skip.specs.ProgramTokens.{spelled}
 use Rattle.source_skip.proofs.Entries.{next_shorter, next_tokens, push_mapped, settings_close, settings_end, settings_more, settings_start, settings_stop, settings_unmarked, tail_entry}
-use Rattle.source_skip.proofs.settings.brackets.Goals as goal
+use Rattle.source_skip.proofs.settings.next_brackets.Goals as goal
 
 pub loop-next-init : goal.loop-next-init
 loop-next-init c =
