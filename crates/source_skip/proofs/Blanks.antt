@@ -46,7 +46,8 @@ blanked_within zero at w bs s h l = none_more at w bs
 blanked_within (suc n) at w [] s h l = absurd (omega (arith, l))
 blanked_within (suc n) at w (b ∷ bs) s h l =
     let o : covers w at ≡ true = covers_now w at (s (omega arith)) (omega (arith, h)) in
-    let i = blanked_within n (suc at) w bs (λ p. omega (arith, s (omega arith))) (omega (arith, h)) (omega (arith, l)) in
+    let i = blanked_within n (suc at) w bs (λ p. omega (arith, s (omega arith))) (omega (arith, h))
+    (omega (arith, l)) in
     rw (o, i, one_more n at w (drop n bs)) refl
 
 blanked_behind : (at : ℕ) (w : Span) (bs : List ℕ) → (0 < length bs → w.end ≤ at) → blanked at w bs ≡ bs
@@ -62,8 +63,10 @@ pub blanked_part : (text ys : List ℕ) (w : Span) (s e : ℕ) → e ≡ min w.e
 blanked_part text ys w s e h k y =
     let len : length (take (e - s) (drop s text)) ≡ e - s = grind (arith, common_steps) in
     let first = blanked_before s 0 w text (omega arith) in
-    let then = blanked_within (e - s) (0 + s) w (drop s text) (λ p. omega arith) (omega arith) (grind (arith, common_steps)) in
-    let last = blanked_behind (0 + s + (e - s)) w (drop (e - s) (drop s text)) (λ p. omega (arith, p, h, k, length-drop {A = ℕ})) in
+    let then = blanked_within (e - s) (0 + s) w (drop s text) (λ p. omega arith) (omega arith)
+    (grind (arith, common_steps)) in
+    let last = blanked_behind (0 + s + (e - s)) w (drop (e - s) (drop s text))
+    (λ p. omega (arith, p, h, k, length-drop {A = ℕ})) in
     rw (y, len, first, then, last) refl
 
 -- ---- one span after the other
@@ -72,7 +75,8 @@ pub without_none : (at : ℕ) (bs : List ℕ) → without at [] bs ≡ bs
 without_none at [] = refl
 without_none at (b ∷ bs) = rw (without_none (suc at) bs) refl
 
-is_of_push : (at : ℕ) (ts : List Spelled) (t : Spelled) → is_of (ts ++ t ∷ []) at ≡ (covers (span_of t) at || is_of ts at)
+is_of_push : (at : ℕ) (ts : List Spelled) (t : Spelled)
+    → is_of (ts ++ t ∷ []) at ≡ (covers (span_of t) at || is_of ts at)
 is_of_push at [] t = refl
 is_of_push at (s ∷ ts) t = grind (arith, is_of_push at ts t)
 
@@ -93,5 +97,5 @@ without_more gone spans i d old now new same within so_far next =
     let t : Spelled = record { start = d.start; end = d.end; lexeme = punctuation 0 } in
     let l : i < length gone = omega (arith, within, ap length same, length-map gone span_of) in
     let g : get_or spans i d ≡ span_of (get_or gone i t) =
-        ap (λ xs. get_or xs i d) same ∙ get_or-map span_of gone i t d l in
+    ap (λ xs. get_or xs i d) same ∙ get_or-map span_of gone i t d l in
     rw (next, so_far, g, take_more gone i t l) (without_push 0 (take i gone) (get_or gone i t) old)

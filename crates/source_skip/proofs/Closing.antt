@@ -38,7 +38,8 @@ module _ {A : Type 0} (f : A → Spelled) (closes : List (Option ℕ)) (t : A) (
   left_within = omega (arith, left_is.within, length-map xs f)
 
   pub braces_behind : is_symbol 123 (f t) ≡ true
-      → Some (map f (take (length xs - (length xs - left)) (drop (length xs - left) xs))) ≡ behind Braces (map f (t ∷ xs))
+      → Some (map f (take (length xs - (length xs - left)) (drop (length xs - left) xs)))
+      ≡ behind Braces (map f (t ∷ xs))
   braces_behind opens = rw (opens, whole_rest (length xs - left) xs (omega arith))
       (sym (left_is.rest ∙ ap (λ (x : List Spelled). Some x)
       (ap (λ n. drop (n - left) (map f xs)) (length-map xs f) ∙ drop-map f (length xs - left) xs)))
@@ -134,8 +135,12 @@ short_by ts (Some us) k l h = let e : k ≡ length us = cc in omega (arith, e, t
 
 pub pushed_within : (closes new : List (Option ℕ)) (left : Option ℕ) (ts : List Spelled) → ClosesFrom closes left ts
     → new ≡ closes ++ left ∷ [] → (k : ℕ) → left ≡ Some k → k < length new
-pushed_within closes new left ts from pushed k h = rw pushed (omega (arith, from.counted, length_push closes left,
-  short_by ts (closed 0 ts) k (closed_tail 0 ts) (sym h ∙ from.here_left)))
+pushed_within closes new left ts from pushed k h = rw pushed (omega (
+  arith,
+  from.counted,
+  length_push closes left,
+  short_by ts (closed 0 ts) k (closed_tail 0 ts) (sym h ∙ from.here_left),
+))
 
 -- ---- one place before
 
@@ -146,7 +151,8 @@ module _ {A : Type 0} (f : A → Spelled) (xs : List A) (at : ℕ) (d : A) (clos
   before_place =
       let l : at - 1 < length (map f xs) = omega (arith, length-map xs f, from.0) in
       let e : suc (at - 1) ≡ at = omega arith in
-      let g : get_or (map f xs) (at - 1) (f d) ≡ f (get_or xs (at - 1) d) = get_or-map f xs (at - 1) d (f d) (omega (arith, from.0)) in
+      let g : get_or (map f xs) (at - 1) (f d) ≡ f (get_or xs (at - 1) d) =
+      get_or-map f xs (at - 1) d (f d) (omega (arith, from.0)) in
       drop-cons (map f xs) (at - 1) (f d) l ∙ rw (g, e) refl
 
   placed : (next : Option ℕ) → ClosesFrom (closes ++ left ∷ []) next (f (get_or xs (at - 1) d) ∷ drop at (map f xs))
@@ -155,7 +161,9 @@ module _ {A : Type 0} (f : A → Spelled) (xs : List A) (at : ℕ) (d : A) (clos
 
   pub placed_opens : (k : ℕ) (v : Option ℕ) → is_symbol 123 (f (get_or xs (at - 1) d)) ≡ true → left ≡ Some k
       → v ≡ get_or new k v → (at - 1 ≤ length xs) × ClosesFrom new v (drop (at - 1) (map f xs))
-  placed_opens k v o h g = placed v (rw (get_or_read new k v (pushed_within closes new left (drop at (map f xs)) from.1 pushed k h) g None, pushed)
+  placed_opens k v o h g =
+      let l = pushed_within closes new left (drop at (map f xs)) from.1 pushed k h in
+      placed v (rw (get_or_read new k v l g None, pushed)
       (step_opens closes left (f (get_or xs (at - 1) d)) (drop at (map f xs)) from.1 k o h))
 
   pub placed_never : is_symbol 123 (f (get_or xs (at - 1) d)) ≡ true → left ≡ None

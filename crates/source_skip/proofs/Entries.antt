@@ -25,7 +25,8 @@ entry_by_tail : (goes : Bool) (s : Spelled) (ts : List Spelled) (o : Option (Lis
 entry_by_tail goes s ts None k = tt
 entry_by_tail goes s ts (Some us) k = k
 
-or_entry_tail : (ts : List Spelled) (o p : Option Entry) → EntryTail ts o → EntryTail ts p → EntryTail ts (option_or o p)
+or_entry_tail : (ts : List Spelled) (o p : Option Entry) → EntryTail ts o → EntryTail ts p
+    → EntryTail ts (option_or o p)
 or_entry_tail ts None p k l = l
 or_entry_tail ts (Some e) p k l = k
 
@@ -69,7 +70,7 @@ no_brackets (suc most) mark = refl
 
 pub settings_end : (closes : List (Option ℕ)) (all : List Spelled) (es : List Entry) (mark : ℕ)
     → SettingsGoOn closes all es mark [] → None ≡ brackets (length all) 91 all
-settings_end closes all es mark g = let e = no_brackets g.most mark in let s = g.same in sym (s ∙ ap (option_map (joined es)) e)
+settings_end closes all es mark g = sym (g.same ∙ ap (option_map (joined es)) (no_brackets g.most mark))
 
 unmarked : (most mark : ℕ) (s : Spelled) (ts : List Spelled) → is_symbol mark s ≡ false
     → brackets most mark (s ∷ ts) ≡ None
@@ -162,12 +163,18 @@ next_len : {A : Type 0} (xs : List A) (o : Option (Bor A × Bor (List A)))
 next_len xs None h = sym h
 next_len xs (Some p) h = h.1
 
-pub next_shorter : {A : Type 0} (f : A → Spelled) (xs setting : List A) (s : Bor A) (o p : Option (Bor A × Bor (List A)))
+pub next_shorter : {A : Type 0} (f : A → Spelled) (xs setting : List A) (s : Bor A)
+    (o p : Option (Bor A × Bor (List A)))
     (ts : Bor (List A)) → MatchOption o (length xs ≡ 0) (λ p. IsFirstAndRest xs p.0.now p.1.now)
     → p ≡ Some (s, ts) → IsTail (map f xs) (map f ts.now)
     → option_map_or (λ p. length p.1.now + 1) o 0 < option_map_or (λ p. length p.1.now + 1) p 0
-next_shorter f xs setting s o p ts h e k = rw e (omega (arith, next_len xs o h, tail_within (map f xs) (map f ts.now) k,
-  length-map xs f, length-map ts.now f))
+next_shorter f xs setting s o p ts h e k = rw e (omega (
+  arith,
+  next_len xs o h,
+  tail_within (map f xs) (map f ts.now) k,
+  length-map xs f,
+  length-map ts.now f,
+))
 
 pub push_mapped : {A B : Type 0} (f : A → B) (xs new : List A) (x : A) → new ≡ xs ++ x ∷ []
     → map f new ≡ map f xs ++ f x ∷ []

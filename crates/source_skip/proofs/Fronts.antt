@@ -117,7 +117,8 @@ abbrev gone_from : ℕ → Option Front → List Spelled
 gone_from most o = unwrap_or (option_map (λ f. f.gone ++ goes_from most f.starts f.rest) o) []
 
 -- what goes is what goes of the fronts so far and of those that are still to come
-pub record SpansGoOn (closes : List (Option ℕ)) (all : List Spelled) (spans : List Span) (next : Option Front) : Type 0 where
+pub record SpansGoOn (closes : List (Option ℕ)) (all : List Spelled) (spans : List Span)
+    (next : Option Front) : Type 0 where
   pub most : ℕ
   pub fits : FitsIn most closes next
   pub same : map span_of (goes all) ≡ spans ++ map span_of (gone_from most next)
@@ -182,5 +183,5 @@ pub front_smaller : (o p : Option rust.Front) (f : rust.Front)
 front_smaller None p f h e = rw e (omega arith)
 front_smaller (Some g) p f h e =
     let r : IsRest (map spelled g.rest.now) (map spelled f.rest.now) =
-        rest_front f.starts (map spelled f.rest.now) (spelled_front g) h in
+    rest_front f.starts (map spelled f.rest.now) (spelled_front g) h in
     rw e (omega (arith, r.shorter, length-map g.rest.now spelled, length-map f.rest.now spelled))

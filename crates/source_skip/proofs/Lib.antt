@@ -8,3 +8,4 @@ mod Blanks
 mod Lengths
 mod TokenEnds
 mod LineEnds
+mod Plain

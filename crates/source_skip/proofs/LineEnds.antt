@@ -183,11 +183,12 @@ front_mapped : {A : Type 0} (ts : List Spelled) (f : A → Front) (o : Option A)
 front_mapped ts f None l = tt
 front_mapped ts f (Some a) l = l a
 
-front_of_brackets : (ts : List Spelled) (o : Option Brackets) → OnBrackets ts o → FrontLess ts (option_map (λ b. record {
-  gone = cond (all_go b.entries) (before ts b.rest) (gone_within b.entries);
-  rest = b.rest;
-  starts = false;
-}) o)
+front_of_brackets : (ts : List Spelled) (o : Option Brackets) → OnBrackets ts o
+    → FrontLess ts (option_map (λ b. record {
+      gone = cond (all_go b.entries) (before ts b.rest) (gone_within b.entries);
+      rest = b.rest;
+      starts = false;
+    }) o)
 front_of_brackets ts None l = tt
 front_of_brackets ts (Some b) l = less_cond (all_go b.entries) (before ts b.rest) (gone_within b.entries) ts
     (less_take (length ts - length b.rest) ts) (less_within b.entries ts l)

@@ -1,8 +1,8 @@
 -- The settings between brackets, as the program has them.
-use Rattle.std.specs.Prelude.{List, map}
-use Rattle.proto_tokens.specs.Token.{Spelled}
+use Rattle.std.specs.Prelude.{map}
 use Rattle.source_skip.specs.ProgramTokens.{spelled}
 use Rattle.source_skip.specs.Skipped as skipped
+use Rattle.source_skip.specs.declared.settings.Brackets.{Brackets}
 use Rattle.source_skip.specs.declared.settings.Entry.{Entry}
 
 abbrev pub entry_of : Entry → skipped.Entry
@@ -13,6 +13,5 @@ entry_of e = record {
   rest = map spelled e.rest.now;
 }
 
--- the settings of brackets, and the tokens behind them
-abbrev pub brackets_of : List Entry → List Spelled → skipped.Brackets
-brackets_of entries rest = record { entries = map entry_of entries; rest = rest }
+abbrev pub brackets_of : Brackets → skipped.Brackets
+brackets_of b = record { entries = map entry_of b.entries.items; rest = map spelled b.rest.now }

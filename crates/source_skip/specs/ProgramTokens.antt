@@ -1,17 +1,18 @@
 -- The tokens of the program, and tables of them.
-use Rattle.std.specs.Prelude.{◌≡◌, ◌==◌, ℕ, suc, ◌<◌, ◌&&◌, not, cond, List, [], ◌∷◌, length, slice_index_or, Option, None, option_map}
+use Rattle.std.specs.Prelude.{◌≡◌, ◌==◌, ℕ, suc, ◌<◌, ◌&&◌, not, cond, List, [], ◌∷◌, length, map, slice_index_or, Option, None, option_map}
+use denote.Ref.{Bor}
 use Rattle.std.specs.Int.{is_in_range}
 use Rattle.std.specs.Str.{byte}
 use Rattle.proto_tokens.specs.Token.{Lexeme, identifier, number, string_literal, punctuation, Spelled}
-use Rattle.source_skip.specs.Shapes.{closed, unwritten, unwritten_of_fields}
-use Rattle.source_skip.specs.declared.token.Kind.{Kind}
-use Rattle.source_skip.specs.declared.token.Kind.TheVariants as kind
+use Rattle.source_skip.specs.Shapes.{Shape, behind, closed, unwritten, unwritten_of_fields}
+use Rattle.source_skip.specs.declared.token.TokenKind.{TokenKind}
+use Rattle.source_skip.specs.declared.token.TokenKind.TheVariants as kind
 use Rattle.source_skip.specs.declared.token.Span.{Span}
 use Rattle.source_skip.specs.declared.token.Token.{Token}
 use Rattle.source_skip.specs.declared.words.Position.{Position}
 use Rattle.source_skip.specs.declared.words.Position.TheVariants as position
 
-abbrev pub lexeme_of_kind : Kind → Lexeme
+abbrev pub lexeme_of_kind : TokenKind → Lexeme
 lexeme_of_kind (kind.Identifier word) = identifier word.now
 lexeme_of_kind kind.Number = number 0
 lexeme_of_kind (kind.Text bytes) = string_literal bytes.now
@@ -27,6 +28,10 @@ span_of t = record { start = t.start; end = t.end }
 abbrev pub words_of : Position → List (List ℕ)
 words_of position.Statement = unwritten
 words_of position.Brackets = unwritten_of_fields
+
+-- what stands behind a rule's tokens at the front, if they stand there
+abbrev pub Takes : Shape → List Token → Option (Bor (List Token)) → Type 0
+Takes shape tokens result = option_map (λ rest. map spelled rest.now) result ≡ behind shape (map spelled tokens)
 
 -- For each token of a list the table has, where the number of tokens behind it says, how many stand behind the `}` that
 -- closes a brace at this token.

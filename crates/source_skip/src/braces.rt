@@ -1,8 +1,8 @@
 //! Where braces close.
 
-ghost use Rattle.std.specs.Prelude.{◌≡◌, length, map, IfOk, option_map};
-ghost use Rattle.source_skip.specs.ProgramTokens.{IsClosing, spelled};
-ghost use Rattle.source_skip.specs.Shapes.{Braces, behind};
+ghost use Rattle.std.specs.Prelude.{map, IfOk};
+ghost use Rattle.source_skip.specs.ProgramTokens.{IsClosing, Takes, spelled};
+ghost use Rattle.source_skip.specs.Shapes.{Braces};
 
 use crate::token::Token;
 use std::alloc::{AllocError, Global};
@@ -41,8 +41,7 @@ pub(crate) fn braces<'t, 's>(
     closes: &[Option<usize>],
 ) -> Option<&'t [Token<'s>]>
     requires { IsClosing closes.now (map spelled tokens.now) }
-    ensures { option_map (λ rest. map spelled rest.now) result
-        ≡ behind Braces (map spelled tokens.now) }
+    ensures { Takes Braces tokens.now result }
 {
     let (brace, inner) = tokens.split_first()?;
     if !brace.is_symbol(b'{') {

@@ -6,7 +6,7 @@ ghost use Rattle.source_skip.specs.ProgramTokens.{IsClosing, span_of, spelled};
 ghost use Rattle.source_skip.specs.Skipped as spec;
 
 use crate::braces::closing_places;
-use crate::settings::{Entry, all_go, before, brackets, push_gone, push_spans};
+use crate::settings::{Brackets, Entry, all_go, before, next_brackets, push_settings, push_spans};
 use crate::shapes::{statement, text, word};
 use crate::token::{Span, Token};
 use std::alloc::{AllocError, Global};
@@ -66,7 +66,7 @@ fn brackets_front<'t, 's>(
     ensures { IfOk result
         (λ found. option_map front_of found ≡ spec.brackets_front (map spelled tokens.now)) }
 {
-    let Some((entries, rest)) = brackets(alloc, tokens, closes)? else {
+    let Some(Brackets { entries, rest }) = next_brackets(alloc, tokens, closes)? else {
         return Ok(None);
     };
     let gone = if all_go(&entries) {
@@ -119,13 +119,13 @@ fn next_front<'t, 's>(
 }
 
 /// Adds the spans of what goes.
-fn push_front(spans: &mut Vec<Span>, gone: &Gone) -> Result<(), AllocError>
+fn push_gone(spans: &mut Vec<Span>, gone: &Gone) -> Result<(), AllocError>
     ensures { OnOk result (spans.new.items ≡ spans.old.items ++ map span_of (gone_of gone.now)) }
 {
     match gone {
         Gone::Nothing => Ok(()),
         Gone::Tokens(tokens) => push_spans(spans, tokens),
-        Gone::Settings(entries) => push_gone(spans, entries),
+        Gone::Settings(entries) => push_settings(spans, entries),
     }
 }
 
@@ -137,7 +137,7 @@ pub(crate) fn gone_spans(alloc: Global, tokens: &[Token]) -> Result<Vec<Span>, A
     let mut spans = Vec::new(alloc);
     let mut next = next_front(alloc, tokens, &closes, true)?;
     while let Some(front) = next {
-        push_front(&mut spans, &front.gone)?;
+        push_gone(&mut spans, &front.gone)?;
         next = next_front(alloc, front.rest, &closes, front.starts)?;
     }
     Ok(spans)

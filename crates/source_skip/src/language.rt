@@ -5,14 +5,14 @@ ghost use Rattle.source_skip.specs.Languages as spec;
 ghost use Rattle.source_skip.specs.Pieces.{loose_tokens};
 ghost use Rattle.source_skip.specs.ProgramTokens.{spelled};
 
-use crate::token::{Kind, Token, mark_len, next_token};
+use crate::token::{Token, TokenKind, mark_len, next_token};
 
 /// Whether the token is a string that says `proto2`.
 fn is_proto2(token: &Token) -> bool
     ensures { result ≡ spec.is_proto2 (spelled token.now).lexeme }
 {
     match token.kind {
-        Kind::Text(bytes) => {
+        TokenKind::Text(bytes) => {
             bytes == b"\"proto2\"".as_slice() || bytes == b"'proto2'".as_slice()
         }
         _ => false,

@@ -13,5 +13,5 @@ mod token;
 mod words;
 
 pub use language::begins_other;
-pub use laws::{skipping_keeps_lengths, skipping_keeps_lines};
+pub use laws::{plain_texts_stay, skipping_keeps_lengths, skipping_keeps_lines};
 pub use skipping::skip;

@@ -21,6 +21,13 @@ pub(crate) struct Entry<'t, 's> {
     pub(crate) rest: &'t [Token<'s>],
 }
 
+/// Brackets: their settings, and what stands behind them.
+#[derive(Drop)]
+pub(crate) struct Brackets<'t, 's> {
+    pub(crate) entries: Vec<Entry<'t, 's>>,
+    pub(crate) rest: &'t [Token<'s>],
+}
+
 /// The tokens before what stands behind them.
 pub(crate) fn before<'t, 's>(tokens: &'t [Token<'s>], rest: &[Token]) -> &'t [Token<'s>]
     ensures { map spelled result.now ≡ spec.before (map spelled tokens.now) (map spelled rest.now) }
@@ -55,16 +62,16 @@ fn entry_behind<'t, 's>(
     })
 }
 
-/// The settings between brackets, and what stands behind the brackets, if brackets stand there.
-pub(crate) fn brackets<'t, 's>(
+/// The brackets at the front, if they stand there.
+pub(crate) fn next_brackets<'t, 's>(
     alloc: Global,
     tokens: &'t [Token<'s>],
     closes: &[Option<usize>],
-) -> Result<Option<(Vec<Entry<'t, 's>>, &'t [Token<'s>])>, AllocError>
+) -> Result<Option<Brackets<'t, 's>>, AllocError>
     requires { IsClosing closes.now (map spelled tokens.now) }
     ensures { IfOk result
-        (λ found. option_map (λ b. brackets_of b.0.items (map spelled b.1.now)) found
-            ≡ spec.brackets (length (map spelled tokens.now)) 91 (map spelled tokens.now)) }
+        (λ found. option_map brackets_of found
+        ≡ spec.brackets (length (map spelled tokens.now)) 91 (map spelled tokens.now)) }
 {
     let mut entries = Vec::new(alloc);
     let mut mark = b'[';
@@ -78,7 +85,10 @@ pub(crate) fn brackets<'t, 's>(
         };
         entries.push(entry)?;
         if let Some(behind) = symbol(entry.rest, b']') {
-            return Ok(Some((entries, behind)));
+            return Ok(Some(Brackets {
+                entries,
+                rest: behind,
+            }));
         }
         mark = b',';
         next = entry.rest.split_first();
@@ -113,7 +123,7 @@ fn push_entry(spans: &mut Vec<Span>, entry: &Entry, separated: bool) -> Result<(
 
 /// Adds the spans of what goes of settings of which one stays. With one that goes the comma before it goes; of one that stays
 /// this comma goes where none before it stays. The bracket stays.
-pub(crate) fn push_gone(spans: &mut Vec<Span>, entries: &[Entry]) -> Result<(), AllocError>
+pub(crate) fn push_settings(spans: &mut Vec<Span>, entries: &[Entry]) -> Result<(), AllocError>
     ensures { OnOk result (spans.new.items
         ≡ spans.old.items ++ map span_of (spec.gone_within (map entry_of entries.now))) }
 {

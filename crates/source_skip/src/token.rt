@@ -13,7 +13,7 @@ use std::alloc::{AllocError, Global};
 
 /// What a token is. Strings have their quotes.
 #[derive(Clone, Copy)]
-pub(crate) enum Kind<'s> {
+pub(crate) enum TokenKind<'s> {
     Identifier(&'s [u8]),
     Number,
     Text(&'s [u8]),
@@ -29,7 +29,7 @@ pub(crate) struct Span {
 
 #[derive(Clone, Copy)]
 pub(crate) struct Token<'s> {
-    pub(crate) kind: Kind<'s>,
+    pub(crate) kind: TokenKind<'s>,
     pub(crate) span: Span,
 }
 
@@ -38,7 +38,7 @@ impl<'s> Token<'s> {
         ensures { result ≡ shapes.is_symbol symbol (spelled self.now) }
     {
         match self.kind {
-            Kind::Symbol(found) => symbol == found,
+            TokenKind::Symbol(found) => symbol == found,
             _ => false,
         }
     }
@@ -47,7 +47,7 @@ impl<'s> Token<'s> {
         ensures { result ≡ fits (OneOf (word.now ∷ [])) (spelled self.now).lexeme }
     {
         match self.kind {
-            Kind::Identifier(found) => found == word,
+            TokenKind::Identifier(found) => found == word,
             _ => false,
         }
     }
@@ -55,32 +55,32 @@ impl<'s> Token<'s> {
     pub(crate) fn is_identifier(&self) -> bool
         ensures { result ≡ fits (NoneOf []) (spelled self.now).lexeme }
     {
-        matches!(self.kind, Kind::Identifier(_))
+        matches!(self.kind, TokenKind::Identifier(_))
     }
 
     pub(crate) fn is_number(&self) -> bool
         ensures { result ≡ fits AnyNumber (spelled self.now).lexeme }
     {
-        matches!(self.kind, Kind::Number)
+        matches!(self.kind, TokenKind::Number)
     }
 
     pub(crate) fn is_text(&self) -> bool
         ensures { result ≡ fits AnyString (spelled self.now).lexeme }
     {
-        matches!(self.kind, Kind::Text(_))
+        matches!(self.kind, TokenKind::Text(_))
     }
 }
 
 /// What the bytes of a token are.
-fn kind_of(bytes: &[u8]) -> Kind<'_>
+fn kind_of(bytes: &[u8]) -> TokenKind<'_>
     ensures { lexeme_of_kind result ≡ lexeme_of bytes.now }
 {
     match bytes.first() {
-        Some(first) if is_letter(*first) => Kind::Identifier(bytes),
-        Some(first) if is_word(*first) => Kind::Number,
-        Some(first) if is_quote(*first) => Kind::Text(bytes),
-        Some(first) => Kind::Symbol(*first),
-        None => Kind::Symbol(0),
+        Some(first) if is_letter(*first) => TokenKind::Identifier(bytes),
+        Some(first) if is_word(*first) => TokenKind::Number,
+        Some(first) if is_quote(*first) => TokenKind::Text(bytes),
+        Some(first) => TokenKind::Symbol(*first),
+        None => TokenKind::Symbol(0),
     }
 }
 

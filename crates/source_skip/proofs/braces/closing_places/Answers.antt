@@ -19,7 +19,9 @@ loop-at-preserved-in-None c = placed_never spelled c.args.tokens.now c.loop-at.a
     (sym c.is_symbol.ensures ∙ c.if-is_symbol.true) c.in-None.is
 
 pub loop-at-preserved-then-is_symbol-2 : goal.loop-at-preserved-then-is_symbol-2
-loop-at-preserved-then-is_symbol-2 c = let h = c.loop-at.closes.ok.0 in rw (c.len-behind.ensures, h) (placed_closes spelled c.args.tokens.now c.loop-at.at _
+loop-at-preserved-then-is_symbol-2 c =
+    let h = c.loop-at.closes.ok.0 in
+    rw (c.len-behind.ensures, h) (placed_closes spelled c.args.tokens.now c.loop-at.at _
     c.loop-at.closes.items c.push.new.self.items c.loop-at.left (omega arith) c.loop-at.invariant
     c.in_ok-push.ensures.items (sym c.is_symbol.ensures ∙ c.if-is_symbol.false)
     (sym c.is_symbol-else-is_symbol.ensures ∙ c.if-is_symbol-2.true))

@@ -14,8 +14,8 @@ loop-next-smaller-in_ok-next-2 c =
 
 pub loop-next-preserved-in_ok-next-2 : goal.loop-next-preserved-in_ok-next-2
 loop-next-preserved-in_ok-next-2 c = spans_more c.in_ok-closes.closes.items (map spelled c.args.tokens.now)
-    c.loop-next.spans.items c.push_front.new.spans.items (front_of c.in-Some.front) _
-    (rw c.in-Some.is at c.loop-next.invariant) c.in_ok-push_front.ensures c.in_ok-next-2.ensures
+    c.loop-next.spans.items c.push_gone.new.spans.items (front_of c.in-Some.front) _
+    (rw c.in-Some.is at c.loop-next.invariant) c.in_ok-push_gone.ensures c.in_ok-next-2.ensures
 
 pub loop-next-smaller : goal.loop-next-smaller
 loop-next-smaller c =
@@ -23,5 +23,5 @@ loop-next-smaller c =
 
 pub loop-next-preserved : goal.loop-next-preserved
 loop-next-preserved c = spans_more c.in_ok-closes.closes.items (map spelled c.args.tokens.now)
-    c.loop-next.spans.items c.push_front.new.spans.items (front_of c.in-Some.front) _
-    (rw c.in-Some.is at c.loop-next.invariant) c.in_ok-push_front.ensures c.in_ok-next-2.ensures
+    c.loop-next.spans.items c.push_gone.new.spans.items (front_of c.in-Some.front) _
+    (rw c.in-Some.is at c.loop-next.invariant) c.in_ok-push_gone.ensures c.in_ok-next-2.ensures

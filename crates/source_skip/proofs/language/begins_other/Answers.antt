@@ -11,6 +11,7 @@ other_first s (t ∷ []) h = rw h refl
 other_first s (t ∷ u ∷ ts) h = rw h refl
 
 pub returns-then-not-is_word : goal.returns-then-not-is_word
-returns-then-not-is_word c = let e = c.in-Some.ensures.token in let m = c.mark_len.ensures.len in let w = c.is_word.ensures in let f = c.if-not-is_word.true in
-    let k = rw m at e in
-    rw k (other_first (spelled c.in-Some.syntax) (tokens_behind c.args.text.now c.in-Some.syntax.span.end) (sym w ∙ f))
+returns-then-not-is_word c =
+    let tokens = rw c.mark_len.ensures.len at c.in-Some.ensures.token in
+    rw tokens (other_first (spelled c.in-Some.syntax) (tokens_behind c.args.text.now c.in-Some.syntax.span.end)
+    (sym c.is_word.ensures ∙ c.if-not-is_word.true))

@@ -9,6 +9,10 @@ returns-then-is_token-clause-token c = c.loop-len.invariant.2
     (lexeme_of_kind c.kind_of.result) c.if-is_token.true c.in-Some.ensures.found c.kind_of.ensures
 
 pub loop-len-preserved : goal.loop-len-preserved
-loop-len-preserved c = (omega (arith, c.in-Some.ensures.within), omega arith, c.loop-len.invariant.2
-    ∙ behind_gap c.args.text.now c.loop-len.at c.loop-len.invariant.0 c.in-Some.len c.in-Some.is_token
-    c.if-is_token.false c.in-Some.ensures.found)
+loop-len-preserved c = (
+  omega (arith, c.in-Some.ensures.within),
+  omega arith,
+  c.loop-len.invariant.2
+      ∙ behind_gap c.args.text.now c.loop-len.at c.loop-len.invariant.0 c.in-Some.len c.in-Some.is_token
+      c.if-is_token.false c.in-Some.ensures.found,
+)

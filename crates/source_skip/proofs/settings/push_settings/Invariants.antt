@@ -2,7 +2,7 @@ use Rattle.std.proofs.Common.{◌≡◌, ◌++◌, drop, map}
 use Rattle.source_skip.specs.ProgramSettings.{entry_of}
 use Rattle.source_skip.specs.ProgramTokens.{span_of}
 use Rattle.source_skip.specs.Skipped.{gone_later, gone_within}
-use Rattle.source_skip.proofs.settings.push_gone.Given as goal
+use Rattle.source_skip.proofs.settings.push_settings.Given as goal
 
 abbrev pub invariant-loop-entry : goal.invariant-loop-entry
 invariant-loop-entry l =

@@ -3,7 +3,7 @@ use Rattle.std.specs.Option.{option_map_or}
 use Rattle.source_skip.specs.ProgramSettings.{entry_of}
 use Rattle.source_skip.specs.ProgramTokens.{spelled}
 use Rattle.source_skip.proofs.Entries.{SettingsGoOn}
-use Rattle.source_skip.proofs.settings.brackets.Given as goal
+use Rattle.source_skip.proofs.settings.next_brackets.Given as goal
 
 abbrev pub invariant-loop-next : goal.invariant-loop-next
 invariant-loop-next l = SettingsGoOn l.closes (map spelled l.tokens) (map entry_of l.entries.items) l.mark

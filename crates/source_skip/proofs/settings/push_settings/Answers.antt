@@ -1,7 +1,7 @@
 use Rattle.std.proofs.Common.{arith}
 use Rattle.source_skip.specs.ProgramSettings.{entry_of}
 use Rattle.source_skip.proofs.Entries.{later_pushed}
-use Rattle.source_skip.proofs.settings.push_gone.Goals as goal
+use Rattle.source_skip.proofs.settings.push_settings.Goals as goal
 
 pub loop-entry-preserved : goal.loop-entry-preserved
 loop-entry-preserved c = later_pushed entry_of c.in-Some.later.now c.loop-entry.entry-index _ (omega arith)
