@@ -11,7 +11,7 @@ use Rattle.std.proofs.lemmas.Map.Lookups.{exact_bytes}
 use Rattle.proto_base.specs.NameOrder.{NamesRise}
 use Rattle.proto_compilation.specs.Compilation.{CompiledFile, file_name}
 use Rattle.proto_links.proofs.NameRows.{not_less_itself}
-use Rattle.proto_links.proofs.Rising.{IsStrict, Rises, one_rising}
+use Rattle.proto_links.proofs.Rising.{IsStrict, Rises, one_rising, rest_rises}
 use Rattle.proto_sets.specs.SetFaults.{name_at}
 use Rattle.proto_sets.specs.SetSteps.{AreSorted}
 
@@ -183,3 +183,26 @@ neighbours placed files n sorted two =
     let right = not_before placed files (i + 1) j sorted (omega (arith, less)) (omega (arith, below, size)) in
     let up = rw (second ∙ sym first) at right in
     (i, omega (arith, less, below, size), first, same_name (name_at files i) (name_at files (i + 1)) up left)
+-- ---- sorted names that each sum counts alike
+
+abbrev pub IsNoLess : List ℕ → List ℕ → Type 0
+IsNoLess x y = is_less y x ≡ false
+
+-- none is less than the first of them
+none_less : (x y : List ℕ) (xs ys : List (List ℕ)) → Rises IsNoLess (y ∷ ys)
+    → sum_by (hits x) (x ∷ xs) ≡ sum_by (hits x) (y ∷ ys) → is_less x y ≡ false
+none_less x y xs ys up alike =
+    let (j, below, is) = find (y ∷ ys) x (omega (arith, alike, sum_by-cons (hits x) x xs, hit x x refl)) in
+    rw is at (sorted_far is_less less_order (y ∷ ys) (λ k d low h. up k d h) 0 j [] (omega arith) below)
+
+pub one_sorted : (xs ys : List (List ℕ)) → Rises IsNoLess xs → Rises IsNoLess ys
+    → ((f : List ℕ → ℕ) → sum_by f xs ≡ sum_by f ys) → xs ≡ ys
+one_sorted [] [] up over alike = refl
+one_sorted [] (y ∷ ys) up over alike = absurd (omega (arith, alike (λ z. 1), sum_by-cons (λ z. 1) y ys))
+one_sorted (x ∷ xs) [] up over alike = absurd (omega (arith, alike (λ z. 1), sum_by-cons (λ z. 1) x xs))
+one_sorted (x ∷ xs) (y ∷ ys) up over alike =
+    let same : x ≡ y = same_name x y (none_less x y xs ys over (alike (hits x)))
+    (none_less y x ys xs up (sym (alike (hits y)))) in
+    let rest : xs ≡ ys = one_sorted xs ys (rest_rises IsNoLess x xs up) (rest_rises IsNoLess y ys over)
+    (λ f. omega (arith, alike f, ap f same, sum_by-cons f x xs, sum_by-cons f y ys)) in
+    cc (same, rest)
