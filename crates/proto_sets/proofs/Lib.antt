@@ -1,4 +1,5 @@
 pub mod Alike
+pub mod Extended
 pub mod FileByFile
 pub mod FileLeast
 pub mod LeastFault
@@ -11,6 +12,7 @@ pub mod PassLeast
 pub mod SetLeast
 pub mod Sorting
 pub mod Tabled
+pub mod Tables
 pub mod Unique
 pub mod Walked
 pub mod Within

@@ -1,14 +1,15 @@
 -- The extensions of a set as a compilation has them: by message and number, with the first file that declares each.
-use Rattle.std.specs.Prelude.{◌≡◌, ℕ, ◌≤◌, List, ◌++◌, codes, Contains, IsUtf8}
+use Rattle.std.specs.Prelude.{◌≡◌, ℕ, ◌<◌, ◌≤◌, ◌^◌, List, ◌++◌, codes, length, Contains, IsUtf8}
 use Rattle.proto_compilation.specs.Extensions.{DeclaredExtension, ExtensionsRise}
 use Rattle.proto_sets.specs.Says.{ExtensionAt}
 
--- the same extension: the set spells its message's name in full, with a dot in front
+-- the same extension: the set spells its message's name in full, with a dot in front; numbers have 32 bits
 pub record IsDeclared (e : ExtensionAt) (d : DeclaredExtension) : Type 0 where
   pub spelled : e.extendee ≡ codes "." ++ d.message
   pub utf8 : IsUtf8 d.message
   pub number : e.number ≡ d.number
   pub file : e.file ≡ d.file
+  pub small : d.number < 2 ^ 32
 
 abbrev pub AreAmong : List ExtensionAt → DeclaredExtension → Type 0
 AreAmong extensions d = (e : ExtensionAt) × Contains extensions e × IsDeclared e d
@@ -23,3 +24,4 @@ pub record AreTabled (extensions : List ExtensionAt) (table : List DeclaredExten
   pub each : (d : DeclaredExtension) → Contains table d → AreAmong extensions d
   pub all : (d : DeclaredExtension) → AreAmong extensions d
       → (f : DeclaredExtension) × Contains table f × HaveOneNumber f d × (f.file ≤ d.file)
+  pub few : length table ≤ length extensions

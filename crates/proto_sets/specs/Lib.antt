@@ -1,4 +1,5 @@
 pub mod Elements
+pub mod Extensions
 pub mod HeadSteps
 pub mod Heads
 pub mod Says
@@ -7,3 +8,4 @@ pub mod SetFaults
 pub mod SetKinds
 pub mod SetSteps
 pub mod Sets
+pub mod TableSteps

@@ -12,6 +12,7 @@ use Rattle.proto_links.specs.Linked.{AreLinked}
 use Rattle.proto_names.specs.Index.{IndexesNames}
 use Rattle.proto_names.specs.Occurrences.{Occurrence, package_occurrences}
 use Rattle.proto_sets.specs.Elements.{text_in, text_of}
+use Rattle.proto_sets.specs.Extensions.{AreTabled}
 use Rattle.proto_sets.specs.Heads.{IsHead}
 use Rattle.proto_sets.specs.Says.{ExtensionAt, Said, Say, said_extension, said_occurrence}
 use Rattle.wire_format.specs.Reading.{Value, IsRow}
@@ -99,9 +100,4 @@ pub record IsOfSet (limits : Limits) (set : List ℕ) (c : Compilation) : Type 0
   pub linked : AreLinked (map head_of contents) c.links
   pub indexed : IndexesNames (length c.files) (names_from 0 contents) limits c.index
   pub same_limits : c.limits ≡ limits
-  pub no_extensions : c.extensions ≡ []
-
--- its extensions, in the order in which they are declared
-abbrev pub AreExtensionsOf : Limits → List ℕ → List ExtensionAt → Type 0
-AreExtensionsOf limits set extensions = (files : List CompiledFile) × (contents : List Contents)
-    × SetSays limits set files contents × (extensions ≡ extensions_from 0 contents)
+  pub extensions : AreTabled (extensions_from 0 contents) c.extensions

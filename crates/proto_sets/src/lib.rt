@@ -16,11 +16,11 @@ mod laws;
 mod passes;
 mod reading;
 mod set;
+mod table;
 mod texts;
 mod walking;
 
 pub use element::Element;
-pub use extension::Extension;
 pub use fault::{FaultyFile, SetError, SetFault, SetKind};
 pub use laws::{descriptors_say_one_thing, read_sets_are_sound, reading_is_unique};
-pub use set::{ReadSet, read_set};
+pub use set::read_set;

@@ -5,8 +5,8 @@ use Rattle.proto_sets.proofs.PassLeast.{no_fault_at_all}
 use Rattle.proto_sets.proofs.set.read_set.Goals as goal
 
 pub returns-clause-whole : goal.returns-clause-whole
-returns-clause-whole c = IfOk-weaker c.read_passes.result (λ s. IsOfSet c.args.limits.now c.args.set.now s.compiled) _
-    (λ s is x fault. no_fault_at_all c.args.limits.now c.args.set.now s.compiled x is fault.breaks)
+returns-clause-whole c = IfOk-weaker c.read_passes.result (IsOfSet c.args.limits.now c.args.set.now) _
+    (λ s is x fault. no_fault_at_all c.args.limits.now c.args.set.now s x is fault.breaks)
     c.read_passes.ensures.read
 
 pub returns-clause-every_compilation : goal.returns-clause-every_compilation
