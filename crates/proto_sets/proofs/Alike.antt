@@ -17,7 +17,8 @@ use Rattle.proto_links.proofs.Whole.{whole_of}
 use Rattle.proto_links.specs.Linked.{AreLinked, Linked, reach_of}
 use Rattle.proto_names.specs.Index.{Index, IndexesNames, is_service_kind, name_of, services_of}
 use Rattle.proto_names.specs.Occurrences.{Occurrence}
-use Rattle.proto_sets.specs.Sets.{IsOfSet, depth_of, head_of, names_from}
+use Rattle.proto_sets.specs.Sets.{IsOfSet, depth_of, extensions_from, head_of, names_from}
+use Rattle.proto_sets.proofs.Extended.{one_table}
 use Rattle.proto_sets.proofs.Making.{coherent}
 use Rattle.proto_sets.proofs.OneSet.{named_each, one_saying, zipped_heads}
 use Rattle.proto_sets.proofs.Sorting.{moved, one_sorted}
@@ -90,6 +91,8 @@ alike limits set c d first second =
           (λ k e h. indexed.sound.order k e (omega arith) h)
           (λ f. all_services f (length c.files) names limits c.index first.indexed
           ∙ sym (all_services f (length d.files) names limits d.index indexed));
+      extensions = one_table (extensions_from 0 first.contents) c.extensions d.extensions first.extensions
+          (rw (← contents) at second.extensions);
       limits = first.same_limits ∙ sym second.same_limits;
     }
 

@@ -9,7 +9,8 @@ use Rattle.proto_base.specs.declared.limits.Limit.TheVariants as limit
 use Rattle.proto_base.specs.declared.limits.Limits.{Limits}
 use Rattle.proto_base.specs.NameOrder.{NamesRise}
 use Rattle.proto_compilation.specs.Compilation.{Compilation, CompiledFile}
-use Rattle.proto_compilation.specs.Parts.{compilation}
+use Rattle.proto_compilation.specs.Parts.{extended}
+use Rattle.proto_compilation.specs.Extensions.{DeclaredExtension}
 use Rattle.proto_compilation.specs.Sound.{IsCoherent}
 use Rattle.proto_desc.specs.declared.file.FileDesc.{FileDesc}
 use Rattle.proto_links.proofs.Whole.{whole_of}
@@ -19,9 +20,11 @@ use Rattle.proto_names.proofs.Once.{declared_once}
 use Rattle.proto_names.specs.Index.{Index, IndexesNames, is_service_kind, services_of}
 use Rattle.proto_names.specs.Index as index_names
 use Rattle.proto_names.specs.Occurrences.{Occurrence}
+use Rattle.proto_sets.specs.Extensions.{AreTabled}
 use Rattle.proto_sets.specs.Says.{ExtensionAt}
 use Rattle.proto_sets.specs.SetSteps.{AreWalked}
 use Rattle.proto_sets.specs.Sets.{AreByName, IsOfSet, IsShortName, SetSays, depth_of, head_of, names_from}
+use Rattle.proto_sets.proofs.Extended.{fewer, tabled_inside}
 use Rattle.proto_sets.proofs.NamesFrom.{names_inside}
 use Rattle.proto_sets.proofs.OneSet.{named_each, zipped_heads}
 
@@ -44,6 +47,7 @@ coherent limits set c is =
     let names = names_from 0 is.contents in
     let (size, same) = zipped_heads (depth_of limits) c.files is.contents (named_each by_name) is.says.each in
     let services = is.indexed.sound.services in
+    let same_count : length c.files ≡ length is.contents = size in
     rw is.same_limits (record {
       few = omega (arith, length_permutation by_name.placed c.files by_name.all, by_name.are.few);
       rises = by_name.rises;
@@ -62,18 +66,24 @@ coherent limits set c is =
         length-filter,
       );
       short_services = services_short limits names (length c.files) c.index is.short_names is.indexed;
-      extensions_rise = rw is.no_extensions (λ i j d before below. absurd (omega arith));
-      few_extensions = rw is.no_extensions (omega arith);
-      extensions_within = rw is.no_extensions (λ e has. absurd (let below = has.1 in omega arith));
+      extensions_rise = is.extensions.rise;
+      few_extensions = omega (
+        arith,
+        is.extensions.few,
+        fewer 0 is.contents,
+        is.indexed.within,
+        length_permutation names c.index.occurrences is.indexed.all,
+      );
+      extensions_within = λ e has. rw same_count (tabled_inside is.contents c.extensions is.extensions e has);
     })
 
 -- what the passes give is of the set
 pub read_by : (limits : Limits) (set : List ℕ) (files table : List CompiledFile) (names : List Occurrence)
-    (extensions : List ExtensionAt) (heads : List FileDesc) (links : Linked) (index : Index)
-    → AreByName limits set files → AreWalked (depth_of limits) files names extensions heads
+    (extensions : List ExtensionAt) (heads : List FileDesc) (tabled : List DeclaredExtension) (links : Linked)
+    (index : Index) → AreByName limits set files → AreWalked (depth_of limits) files names extensions heads
     → All (IsShortName limits) names → AreLinked heads links → IndexesNames (length heads) names limits index
-    → table ≡ files → IsOfSet limits set (compilation limits table links index)
-read_by limits set files table names extensions heads links index by_name walked short linked indexed same =
+    → table ≡ files → AreTabled extensions tabled → IsOfSet limits set (extended limits table links index tabled)
+read_by limits set files table names extensions heads tabled links index by_name walked short linked indexed same are =
     let says : SetSays limits set files walked.contents = record { by_name = by_name; each = walked.each } in
     let size = (zipped_heads (depth_of limits) files walked.contents (named_each by_name) walked.each).0 in
     let count : length heads ≡ length files =
@@ -85,7 +95,7 @@ read_by limits set files table names extensions heads links index by_name walked
       linked = rw walked.heads_are at linked;
       indexed = rw (count, walked.names_are) at indexed;
       same_limits = refl;
-      no_extensions = refl;
+      extensions = rw walked.extensions_are at are;
     })
 
 -- and their names rise

@@ -14,6 +14,7 @@ use Rattle.std.proofs.lemmas.List.{get_or-map, get_or-take, length-map, length-t
 use Rattle.std.proofs.lemmas.List.MinMax.{ranks_by}
 use Rattle.std.proofs.lemmas.List.Sorted.{Contains-permutation, IsPermutation-sym, length_permutation, sorted_far}
 use Rattle.proto_compilation.specs.Extensions.{DeclaredExtension, ExtensionsRise, Precedes}
+use Rattle.proto_links.proofs.NameRows.{not_less_itself}
 use Rattle.proto_names.proofs.Ordered.{order_tells}
 use Rattle.proto_sets.specs.Extensions.{AreAmong, AreTabled, HaveOneNumber, IsDeclared}
 use Rattle.proto_sets.specs.Says.{ExtensionAt}
@@ -41,7 +42,10 @@ later_file a d h (message, number) =
 precedes : (a d : DeclaredExtension) → IsNotBefore d a → (HaveOneNumber a d → ⊥) → Precedes a d
 precedes a d h other = grind (arith, nat_tests, order_tells, nat_list_cmp_total, exact_bytes)
 
-far : (a b d : DeclaredExtension) → Precedes a b → Precedes b d → Precedes a d
+pub itself : (a : DeclaredExtension) → Precedes a a → ⊥
+itself a h = grind (arith, not_less_itself a.message)
+
+pub far : (a b d : DeclaredExtension) → Precedes a b → Precedes b d → Precedes a d
 far a b d first second = grind (arith, nat_list_cmp_total)
 
 -- ---- one more
@@ -225,9 +229,11 @@ named_in_order es up k d low below =
     (up k e low next)
 
 pub tabled : (es : List ExtensionAt) (named ds table : List DeclaredExtension) → AreNamed es named
+    → length named ≤ length es
     → IsPermutation named ds → IsTableOf ds table → AreTabled es table
-tabled es named ds table are same so = record {
+tabled es named ds table are fewer same so = record {
   rise = so.rise;
   each = λ d w. are.each d (Contains-permutation ds named d (IsPermutation-sym named ds same) (so.each d w));
   all = λ d w. so.all d (Contains-permutation named ds d same (are.all d w));
+  few = omega (arith, so.few, fewer, length_permutation named ds same);
 }

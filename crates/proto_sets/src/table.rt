@@ -95,10 +95,12 @@ fn first_of_each(alloc: Global, sorted: &[NamedExtension]) -> Result<Vec<TabledE
 }
 
 /// The extensions of a set by message and number, with the first file that declares each.
-pub(crate) fn table_of_extensions(alloc: Global, extensions: &[Extension]) -> Result<Vec<TabledExtension>, AllocError>
-    ensures tabled { IfOk result (λ table. AreTabled (map extension_of extensions.now)
+pub(crate) fn table_of_extensions(
+    alloc: Global,
+    extensions: &[Extension],
+) -> Result<Vec<TabledExtension>, AllocError>
+    ensures { IfOk result (λ table. AreTabled (map extension_of extensions.now)
         (map declared_extension table.items)) }
-    ensures few { IfOk result (λ table. length table.items ≤ length extensions.now) }
 {
     let mut sorted = named(alloc, extensions)?;
     sorted.sort_unstable();

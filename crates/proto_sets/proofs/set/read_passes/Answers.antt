@@ -1,4 +1,5 @@
-use Rattle.std.proofs.Common.{rules}
+use Rattle.std.proofs.Common.{map, rules}
+use Rattle.proto_compilation.specs.Parts.{declared_extension}
 use Rattle.proto_sets.specs.SetSteps.{AreNamed, files_of}
 use Rattle.proto_sets.proofs.Making.{heads_rise, names_among, read_by}
 use Rattle.proto_sets.proofs.set.read_passes.Goals as goal
@@ -35,11 +36,12 @@ compilation_of-requires c =
     let files = files_of c.in_ok-files.files.items in
     let walked = rw c.deref.ensures.value at c.in_ok-found.ensures.walked in (
       set,
-      read_by limits set files c.in_ok-table.table _ _ _ c.in_ok-links.links c.in_ok-index.index
-          c.in_ok-files.ensures.files walked c.in_ok-found.ensures.short
+      read_by limits set files c.in_ok-table.table _ _ _ (map declared_extension c.in_ok-tabled.tabled.items)
+          c.in_ok-links.links c.in_ok-index.index c.in_ok-files.ensures.files walked c.in_ok-found.ensures.short
           (rw c.deref-2.ensures.value at c.in_ok-links.ensures.linked)
           (rw c.deref-3.ensures.value at c.in_ok-index.ensures.indexed)
-          (rw c.deref-4.ensures.value at c.in_ok-table.ensures),
+          (rw c.deref-4.ensures.value at c.in_ok-table.ensures)
+          (rw c.deref-5.ensures.value at c.in_ok-tabled.ensures),
     )
 
 pub returns-clause-read : goal.returns-clause-read
@@ -48,8 +50,10 @@ returns-clause-read c =
     let set = c.args.set.now in
     let files = files_of c.in_ok-files.files.items in
     let walked = rw c.deref.ensures.value at c.in_ok-found.ensures.walked in
-    rw c.compilation_of.ensures (read_by limits set files c.in_ok-table.table _ _ _ c.in_ok-links.links c.in_ok-index.index
+    rw c.compilation_of.ensures (read_by limits set files c.in_ok-table.table _ _ _
+    (map declared_extension c.in_ok-tabled.tabled.items) c.in_ok-links.links c.in_ok-index.index
     c.in_ok-files.ensures.files walked c.in_ok-found.ensures.short
     (rw c.deref-2.ensures.value at c.in_ok-links.ensures.linked)
     (rw c.deref-3.ensures.value at c.in_ok-index.ensures.indexed)
-    (rw c.deref-4.ensures.value at c.in_ok-table.ensures))
+    (rw c.deref-4.ensures.value at c.in_ok-table.ensures)
+    (rw c.deref-5.ensures.value at c.in_ok-tabled.ensures))
