@@ -57,7 +57,7 @@ pub fn compiled_set<R: Files + AllocGlobal>(
     let most = limits.read_bound(Limit::SetBytes) as u32;
     let set = set_bytes(rt, path, most)?;
     match read_set(alloc, &set, limits) {
-        Ok(read) => Ok(read.compiled),
+        Ok(compiled) => Ok(compiled),
         Err(error) => Err(told(alloc, path, error)),
     }
 }
