@@ -1,3 +1,4 @@
 mod Describing
 mod EveryAnswer
+mod EverySet
 mod OneAnswer
