@@ -1,5 +1,5 @@
 -- The least fault of a set: the least of the first pass that finds any. A set that has passed breaks no rule.
-use Rattle.std.proofs.Common.{◌≡◌, ◌≢◌, ◌∙◌, sym, subst, ℕ, ◌<◌, ◌≤◌, List, length, map, refl, arith, ◌⊎◌, inl, inr, Result, IfErr, Ordering, Greater, nat_cmp, if◌then◌else◌, ◌==◌}
+use Rattle.std.proofs.Common.{◌≡◌, ◌≢◌, ◌∙◌, sym, subst, ℕ, ◌<◌, ◌≤◌, List, length, map, refl, arith, ◌⊎◌, inl, inr, Result, Ok, Err, IfErr, IsErrAnd, Ordering, Greater, nat_cmp, if◌then◌else◌, ◌==◌}
 use Rattle.std.proofs.lemmas.Bool.{cases_order}
 use Rattle.std.proofs.lemmas.Bool.Decides.{nat_tests}
 use Rattle.std.proofs.lemmas.Cmp.{nat_list_cmp_total, tied_itself}
@@ -15,6 +15,7 @@ use Rattle.proto_links.proofs.NameRows.{rise_far}
 use Rattle.proto_sets.specs.SetFaults.{Breaks, Fault, IsLeastFault, IsNoLater, TellsOf, at_position, name_at, number_of, of_file, pass_of}
 use Rattle.proto_sets.specs.SetSteps.{Tells}
 use Rattle.proto_sets.specs.declared.fault.SetError.{SetError}
+use Rattle.proto_sets.specs.declared.fault.SetError.TheVariants as errors
 use Rattle.proto_sets.specs.declared.fault.SetKind.{SetKind}
 use Rattle.proto_sets.specs.declared.fault.SetKind.TheVariants as kind
 
@@ -119,3 +120,9 @@ module _ (limits : Limits) (set : List ℕ) where
   -- two that are least are one
   pub one_least : (x y : Fault) → IsLeastFault limits set x → IsLeastFault limits set y → x ≡ y
   one_least x y first second = one_fault x y (first.least y second.among) (second.least x first.among)
+
+-- want of memory tells nothing
+pub no_memory : {A : Type 0} (P : Fault → Type 0) (r : Result A SetError) → IsErrAnd r (λ e. e ≡ errors.NoMemory)
+    → IfErr r (TellsOf P)
+no_memory P (Ok a) is = tt
+no_memory P (Err e) is = rw is tt

@@ -1,6 +1,8 @@
 use Rattle.std.proofs.Common.{map, rules}
 use Rattle.proto_compilation.specs.Parts.{declared_extension}
 use Rattle.proto_sets.specs.SetSteps.{AreNamed, files_of}
+use Rattle.proto_sets.specs.SetFaults.{IsLeastFault}
+use Rattle.proto_sets.proofs.LeastFault.{no_memory}
 use Rattle.proto_sets.proofs.Making.{heads_rise, names_among, read_by}
 use Rattle.proto_sets.proofs.set.read_passes.Goals as goal
 
@@ -28,6 +30,11 @@ returns-in_err-index-clause-first c =
     let fact = (rw c.deref-3.ensures.value at c.in_err-index.ensures.first) set files walked.contents named
     walked.heads_are walked.names_are linked.whole in
     search (rules, fact)
+
+pub returns-in_err-tabled-clause-first : goal.returns-in_err-tabled-clause-first
+returns-in_err-tabled-clause-first c =
+    no_memory (IsLeastFault c.args.limits.now c.args.set.now) c.from_residual-in_err-tabled.result
+    c.from_residual-in_err-tabled.ensures.1
 
 pub compilation_of-requires : goal.compilation_of-requires
 compilation_of-requires c =
