@@ -183,6 +183,7 @@ neighbours placed files n sorted two =
     let right = not_before placed files (i + 1) j sorted (omega (arith, less)) (omega (arith, below, size)) in
     let up = rw (second ∙ sym first) at right in
     (i, omega (arith, less, below, size), first, same_name (name_at files i) (name_at files (i + 1)) up left)
+
 -- ---- sorted names that each sum counts alike
 
 abbrev pub IsNoLess : List ℕ → List ℕ → Type 0

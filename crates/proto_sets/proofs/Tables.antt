@@ -79,11 +79,11 @@ module _ (ds table : List DeclaredExtension) (d : DeclaredExtension) (so : IsTab
     all = λ f w. elim (Contains-push_cases ds d f w) [
       | inl before ↦ so.all f before
       | inr same ↦ rw (sym same) (
-          at k,
-          Contains-get_or table k d (omega (arith, last)),
-          one,
-          later_file (at k) d (behind_all k (omega (arith, last))) one,
-        )
+        at k,
+        Contains-get_or table k d (omega (arith, last)),
+        one,
+        later_file (at k) d (behind_all k (omega (arith, last))) one,
+      )
     ];
     few = omega (arith, so.few, length_push ds d);
   }

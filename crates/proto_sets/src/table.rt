@@ -46,7 +46,10 @@ fn named_extension<'b>(extension: &Extension<'b>) -> Option<NamedExtension<'b>>
 }
 
 /// Those of some extensions whose messages are spelled in full.
-fn named<'b>(alloc: Global, extensions: &[Extension<'b>]) -> Result<Vec<NamedExtension<'b>>, AllocError>
+fn named<'b>(
+    alloc: Global,
+    extensions: &[Extension<'b>],
+) -> Result<Vec<NamedExtension<'b>>, AllocError>
     ensures named { IfOk result (λ named. AreNamed (map extension_of extensions.now) (names_of named.items)) }
     ensures few { IfOk result (λ named. length named.items ≤ length extensions.now) }
 {
@@ -77,7 +80,10 @@ fn is_repeated(table: &[TabledExtension], extension: &NamedExtension) -> bool
 }
 
 /// The first of each message and number, among some in order.
-fn first_of_each(alloc: Global, sorted: &[NamedExtension]) -> Result<Vec<TabledExtension>, AllocError>
+fn first_of_each(
+    alloc: Global,
+    sorted: &[NamedExtension],
+) -> Result<Vec<TabledExtension>, AllocError>
     requires { AreInOrder (names_of sorted.now) }
     ensures { IfOk result (λ table. IsTableOf (names_of sorted.now) (map declared_extension table.items)) }
 {

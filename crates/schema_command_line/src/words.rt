@@ -29,12 +29,9 @@ fn root_or_set_argument<'a>(alloc: Global) -> Result<Arg<'a>, AllocError> {
 }
 
 fn set_argument<'a>(alloc: Global) -> Result<Arg<'a>, AllocError> {
-    let set = Arg::new(alloc, "set")
-        .long("set")
-        .value_name("FILE")
-        .help(
-            "in place of sources, the files of this FileDescriptorSet, as protoc --include_imports or buf build write it",
-        );
+    let set = Arg::new(alloc, "set").long("set").value_name("FILE").help(
+        "in place of sources, the files of this FileDescriptorSet, as protoc --include_imports or buf build write it",
+    );
     set.conflicts_with("root")?
         .conflicts_with("include")?
         .conflicts_with("skip-custom-options")?

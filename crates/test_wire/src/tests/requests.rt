@@ -80,7 +80,8 @@ fn asks(request: &Request, host: &str, wanted: &str, name: &str) -> bool {
         Ask::FileByName(name) => ("FileByName", name),
         Ask::FileBySymbol(symbol) => ("FileBySymbol", symbol),
         Ask::FileByExtension {
-            containing_type, ..
+            containing_type,
+            ..
         } => ("FileByExtension", containing_type),
         Ask::ExtensionNumbers(name) => ("ExtensionNumbers", name),
         Ask::ListServices => ("ListServices", ""),
@@ -100,14 +101,15 @@ fn is_read(alloc: Global, message: &[u8], host: &str, wanted: &str, name: &str) 
 /// Whether a message asks for the extension of this number, of this message.
 fn asks_extension(alloc: Global, message: &[u8], wanted: &str, wanted_number: u32) -> bool {
     match read_request(alloc, message) {
-        Ok(Request {
-            ask:
-                Ask::FileByExtension {
+        Ok(
+            Request {
+                ask: Ask::FileByExtension {
                     containing_type,
                     number,
                 },
-            ..
-        }) => containing_type == wanted && number == wanted_number,
+                ..
+            },
+        ) => containing_type == wanted && number == wanted_number,
         _ => false,
     }
 }
