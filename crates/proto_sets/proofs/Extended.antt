@@ -34,13 +34,13 @@ fewer first (c ∷ cs) =
     let packages = package_occurrences first c.head.«package» in
     let names = map (said_occurrence first) c.said in
     let rest = names_from (first + 1) cs in
-    let so : length (own ++ extensions_from (first + 1) cs) ≤ length (packages ++ (names ++ rest)) = omega (
+    let so : length (own ++ extensions_from (first + 1) cs) ≤ length ((packages ++ names) ++ rest) = omega (
       arith,
       fewer_in first c.said,
       fewer (first + 1) cs,
       length-append own (extensions_from (first + 1) cs),
-      length-append packages (names ++ rest),
-      length-append names rest,
+      length-append (packages ++ names) rest,
+      length-append packages names,
       length-map c.said (said_occurrence first),
     ) in
     so
