@@ -133,7 +133,7 @@ where
     O: CountedWrite,
     requires reader_counts { (I.reads reader.old).failures < 2 ^ 64 - 1 }
     requires writer_counts { (O.writes writer.old).failures < 2 ^ 64 - 1 }
-    ensures { IsExchanged mode compiled.entry (I.reads reader.old) (I.reads reader.new)
+    ensures { IsExchanged mode compiled (I.reads reader.old) (I.reads reader.new)
         (O.writes writer.old) (O.writes writer.new) result }
 {
     let exchanged = answer_io(rt, &compiled, plan, &NoGate, mode, reader, writer);

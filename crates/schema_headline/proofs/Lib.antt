@@ -1,4 +1,3 @@
 mod Describing
 mod EveryAnswer
-mod EverySet
 mod OneAnswer

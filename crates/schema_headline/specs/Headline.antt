@@ -1,11 +1,10 @@
--- What a list of sources gives, and what a set gives.
+-- What a list of sources gives.
 use Rattle.std.specs.Prelude.{◌≡◌, ℕ, List}
 use Rattle.first_reach.specs.declared.mode.Mode.{Mode}
 use Rattle.proto_base.specs.declared.limits.Limits.{Limits}
 use Rattle.proto_compilation.specs.Compilation.{Compilation, set_of}
 use Rattle.proto_compile.specs.Compiled.{IsCompiled}
 use Rattle.proto_compile.specs.declared.source.Source.{Source}
-use Rattle.proto_sets.specs.Sets.{IsOfSet}
 use Rattle.reflect_core.specs.Response.{IsResponse}
 
 -- the descriptor set of sources
@@ -16,8 +15,3 @@ IsSetOf limits sources bytes = (c : Compilation) × IsCompiled limits sources c 
 abbrev pub IsResponseOf : Mode → Limits → List Source → List ℕ → List ℕ → Type 0
 IsResponseOf mode limits sources body bytes =
     (c : Compilation) × IsCompiled limits sources c × IsResponse mode c body bytes
-
--- the response to a body over a set
-abbrev pub IsResponseOfSet : Mode → Limits → List ℕ → List ℕ → List ℕ → Type 0
-IsResponseOfSet mode limits set body bytes =
-    (c : Compilation) × IsOfSet limits set c × IsResponse mode c body bytes

@@ -9,7 +9,7 @@ use Rattle.proto_sets.specs.SetFaults.{Fault, IsLeastFault, TellsOf, told_by}
 use Rattle.proto_sets.specs.declared.fault.SetError.{SetError}
 use Rattle.proto_sets.specs.declared.fault.SetError.TheVariants as errors
 use Rattle.reflect_core.proofs.OneResponse.{one_response}
-use Rattle.schema_headline.specs.Headline.{IsResponseOfSet}
+use Rattle.set_headline.specs.Headline.{IsResponseOfSet}
 
 module _ (mode : Mode) (limits : Limits) (set body : List ℕ) where
   pub every_response : (r : Result (Vec ℕ Global) SetError)

@@ -1,9 +1,9 @@
-//! The headline over a set of another compiler.
+//! The headline over a set.
 
 ghost use Rattle.std.specs.Prelude.{◌≡◌, ℕ, List, IfOk, IfErr, IsErrAnd, MatchResult};
 ghost use Rattle.proto_sets.specs.SetFaults.{Fault, IsFault, IsLeastFault, TellsOf};
 ghost use Rattle.proto_sets.specs.declared.fault.SetError.TheVariants as errors;
-ghost use Rattle.schema_headline.specs.Headline.{IsResponseOfSet};
+ghost use Rattle.set_headline.specs.Headline.{IsResponseOfSet};
 
 use proto_base::Limits;
 use proto_sets::{SetError, read_set};

@@ -1,5 +1,5 @@
-use Rattle.schema_headline.proofs.EverySet.{every_fault, every_response}
-use Rattle.schema_headline.proofs.over_set.response_of_set.Goals as goal
+use Rattle.set_headline.proofs.EveryAnswer.{every_fault, every_response}
+use Rattle.set_headline.proofs.headline.response_of_set.Goals as goal
 
 pub returns-clause-every_response : goal.returns-clause-every_response
 returns-clause-every_response g c = every_response c.args.mode c.args.limits.now c.args.set.now c.args.body.now
