@@ -134,6 +134,15 @@ PROTO
         tail -c +4 one.pb >descriptor
         LC_ALL=C grep -qaF "$(head -c 60 descriptor | tr -d '\0\n')" <(tr -d '\0\n' <got) || fail "$text: no old.proto in the reply"
     done
+    # Extensions of old.Old by their numbers, 100 and 101, and not 102. Those of google.protobuf.MessageOptions: 50001.
+    for number in 64 65 66; do
+        rows=$((rows + 1))
+        from_hex "00 00 00 00 0d 2a 0b 0a 07 6f 6c 64 2e 4f 6c 64 10 $number" | "$program" answer --set old.pb >got 2>err || fail "extension $number: $(<err)"
+        grep -qa 'old[.]proto' got && found=yes || found=no
+        [ "$number $found" = "64 yes" ] || [ "$number $found" = "65 yes" ] || [ "$number $found" = "66 no" ] || fail "extension $number of old.Old is found: $found"
+    done
+    frame 6 old.Old | "$program" answer --set old.pb >got && LC_ALL=C grep -qaP '\x12\x02\x64\x65' got || fail 'the numbers of the extensions of old.Old'
+    frame 6 google.protobuf.MessageOptions | "$program" answer --set old.pb >got && LC_ALL=C grep -qaP '\x12\x03\xd1\x86\x03' got || fail 'the numbers of the extensions of MessageOptions'
     frame 7 '*' | "$program" answer --set old.pb >got && grep -qa 'old[.]Olds' got || fail 'the service of a proto2 file is not listed'
     protoc -Iold -I/usr/include --descriptor_set_out=bad.pb old.proto && refused 'a set of protoc without imports' 'old.proto: ImportMissing'
 fi
