@@ -1,2 +1,3 @@
+mod Output
 pub mod Setting
 pub mod Telling
