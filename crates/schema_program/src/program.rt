@@ -61,6 +61,8 @@ fn serve_from<R, O>(
 ) -> Result<(), Failure>
 where
     R: Wait + Threads + Files + Clock + RandomSource + AllocGlobal + Sync + Clone + Drop + Net,
+    R::File: Sync,
+    R::Dir: Sync,
     O: CountedWrite,
     requires { (O.writes output.old).failures < 2 ^ 64 - 1 }
     ensures { IsServeFrom origin.now listen.now connections (O.writes output.old)
@@ -86,6 +88,8 @@ fn answer_from<R, I, O>(
 ) -> Result<(), Failure>
 where
     R: Threads + Files + AllocGlobal + Sync,
+    R::File: Sync,
+    R::Dir: Sync,
     I: CountedRead,
     O: CountedWrite,
     requires reader_counts { (I.reads input.old).failures < 2 ^ 64 - 1 }
