@@ -1,4 +1,4 @@
-use Rattle.schema_commands.specs.Runs.{IsCompileRun, IsDescribeRun}
+use Rattle.schema_commands.specs.Runs.{IsCompileRun, IsDescribeRun, IsExplainRun}
 use Rattle.schema_program.proofs.Ending.{ends_sound}
 use Rattle.schema_program.specs.Performed.{IsAnswerFrom, IsServeFrom}
 use Rattle.schema_sources.specs.Texts.{unknown}
@@ -41,3 +41,10 @@ returns-in-Serve g c =
     (ends_sound (λ done. IsServeFrom c.in-Serve.origin c.in-Serve.listen.now c.in-Serve.connections
     (writes c.args.output.now) (writes c.serve_from.new.output) done)
     c.serve_from.result c.sound-in-Serve.result c.sound-in-Serve.ensures c.serve_from.ensures)
+
+pub returns-in-Explain : goal.returns-in-Explain
+returns-in-Explain g c =
+    let writes = g.O.CountedWrite.writes in
+    rw c.in-Explain.is
+    (ends_sound (λ done. IsExplainRun (writes c.args.output.now) (writes c.run_explain.new.writer) done)
+    c.run_explain.result c.sound-in-Explain.result c.sound-in-Explain.ensures c.run_explain.ensures)
