@@ -93,7 +93,7 @@ got=$?
 
 # The version, with the logic that README names.
 logic=$(sed -n 's/^With the Rattle kits .*, of one \(logic\) `\(.*\)`:$/\1 \2/p' README.md)
-if [ "$("$program" --version)" != "schema_server 1.2.0, $logic" ]; then
+if [ "$("$program" --version)" != "schema_server 1.1.0, $logic" ]; then
     failed "--version: $("$program" --version)" "$?"
 fi
 

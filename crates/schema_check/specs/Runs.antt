@@ -45,5 +45,5 @@ abbrev pub IsFolderCheck : KnownSources → List ℕ → Writes → Writes → R
 IsFolderCheck known root old new done =
     (limits : Limits) × AreStandard limits
     × (IsErrAnd done (λ f. ((f ≡ failure.Folder) ⊎ (f ≡ failure.NoMemory)) × (new ≡ old))
-    ⊎ ((texts : List NamedText) × AreTextsOf limits known texts × (places : Places) × (places.root.now ≡ root)
+    ⊎ ((texts : List NamedText) × AreTextsOf known texts × (places : Places) × (places.root.now ≡ root)
     × IsCheckRun limits places texts old new done))

@@ -9,10 +9,6 @@ use Rattle.clap.specs.declared.parser.matches.Found.{Found}
 use Rattle.first_reach.specs.declared.mode.Mode.{Mode}
 use Rattle.first_reach.specs.declared.mode.Mode.TheVariants as mode
 use Rattle.share_work.specs.declared.plan.Plan.{Plan}
-use Rattle.skipped_sources.specs.declared.options.CustomOptions.{CustomOptions}
-use Rattle.skipped_sources.specs.declared.options.CustomOptions.TheVariants as options
-use Rattle.schema_command_line.specs.declared.task.Origin.{Origin}
-use Rattle.schema_command_line.specs.declared.task.Origin.TheVariants as origin
 use Rattle.schema_command_line.specs.declared.task.Selection.{Selection}
 use Rattle.schema_command_line.specs.declared.task.Task.{Task}
 use Rattle.schema_command_line.specs.declared.task.Task.TheVariants as task
@@ -24,22 +20,11 @@ value_of found name = unwrap_or (first_value found name) []
 abbrev pub values_of : Found → List ℕ → List (List ℕ)
 values_of found name = unwrap_or (option_map raw_values (matched_of found name)) []
 
--- custom options are skipped where the words have --skip-custom-options, and else refused
-pub record AreCustomOptions (found : Found) (o : CustomOptions) : Type 0 where
-  pub skipped : one_text found (codes "skip-custom-options") ≡ Some (codes "true") → o ≡ options.Skip
-  pub refused : one_text found (codes "skip-custom-options") ≡ Some (codes "false") → o ≡ options.Refuse
-
--- the root, the folders of --include, the named files and what is done about custom options are those of the words
+-- the root, the folders of --include and the named files are those of the words
 pub record IsSelection (found : Found) (selection : Selection) : Type 0 where
   pub root : selection.root.now ≡ value_of found (codes "root")
   pub includes : map (λ s. s.now) selection.includes.items ≡ values_of found (codes "include")
   pub files : map (λ s. s.now) selection.files.items ≡ values_of found (codes "files")
-  pub custom_options : AreCustomOptions found selection.custom_options
-
--- what is answered from is the set of the words or, where they have none, their sources
-abbrev pub IsOrigin : Found → Origin → Type 0
-IsOrigin found (origin.Sources selection) = (first_value found (codes "set") ≡ None) × IsSelection found selection
-IsOrigin found (origin.Set path) = first_value found (codes "set") ≡ Some path.now
 
 -- an argument is this number, in decimal digits
 abbrev pub HasNumber : Found → List ℕ → ℕ → Type 0
@@ -72,11 +57,11 @@ IsTaskNamed name found (task.Compile selection plan file) =
     × (option_map (λ s. s.now) file ≡ file_of (first_value found (codes "output")))
 IsTaskNamed name found (task.Check selection plan) =
     (name ≡ codes "check") × IsSelection found selection × IsPlan found plan
-IsTaskNamed name found (task.Serve from listen plan m connections) =
-    (name ≡ codes "serve") × IsOrigin found from × (listen.now ≡ value_of found (codes "listen"))
+IsTaskNamed name found (task.Serve selection listen plan m connections) =
+    (name ≡ codes "serve") × IsSelection found selection × (listen.now ≡ value_of found (codes "listen"))
     × IsPlan found plan × IsMode found m × AreConnections found connections
-IsTaskNamed name found (task.Answer from plan m) =
-    (name ≡ codes "answer") × IsOrigin found from × IsPlan found plan × IsMode found m
+IsTaskNamed name found (task.Answer selection plan m) =
+    (name ≡ codes "answer") × IsSelection found selection × IsPlan found plan × IsMode found m
 IsTaskNamed name found (task.Describe described) =
     (name ≡ codes "describe") × (described.now ≡ value_of found (codes "name"))
 IsTaskNamed name found (task.Explain topic) = name ≡ codes "explain"

@@ -4,4 +4,4 @@
 mod task;
 mod words;
 
-pub use task::{Origin, Selection, Task, task_of};
+pub use task::{Selection, Task, task_of};

@@ -3,7 +3,7 @@
 ghost use Rattle.std.specs.Prelude.{◌≡◌, IfOk, IfSome, codes, map, option_map};
 ghost use Rattle.clap.specs.Matches.{first_value, found_of};
 ghost use Rattle.clap.specs.declared.parser.matches.ArgMatches.{ArgMatches};
-ghost use Rattle.schema_command_line.specs.Tasks.{AreConnections, AreCustomOptions, IsAsked, IsMode, IsOrigin, IsPlan, IsSelection, IsTaskNamed, file_of, values_of};
+ghost use Rattle.schema_command_line.specs.Tasks.{AreConnections, IsAsked, IsMode, IsPlan, IsSelection, IsTaskNamed, file_of, values_of};
 
 use crate::words::whole_command;
 use clap::error::ErrorKind;
@@ -11,7 +11,6 @@ use clap::{ArgMatches, Error};
 use first_reach::Mode;
 use schema_explanation::Topic;
 use share_work::Plan;
-use skipped_sources::CustomOptions;
 use std::alloc::{AllocError, Global};
 
 /// Which sources a run is over.
@@ -23,16 +22,6 @@ pub struct Selection<'a> {
     pub includes: Vec<&'a str>,
     /// The sources that are named; none where all below the root are meant.
     pub files: Vec<&'a str>,
-    pub custom_options: CustomOptions,
-}
-
-/// What a run answers from.
-#[derive(Drop)]
-pub enum Origin<'a> {
-    /// Sources, which are compiled first.
-    Sources(Selection<'a>),
-    /// The `FileDescriptorSet` in a file of this path.
-    Set(&'a str),
 }
 
 /// What one run is to do.
@@ -50,18 +39,18 @@ pub enum Task<'a> {
         selection: Selection<'a>,
         plan: Plan,
     },
-    /// Serve reflection by HTTP, at an address and a port.
+    /// Serve reflection over sources by HTTP, at an address and a port.
     Serve {
-        origin: Origin<'a>,
+        selection: Selection<'a>,
         listen: &'a str,
         plan: Plan,
         mode: Mode,
         /// How many connections are served; without a count there is no end.
         connections: Option<u64>,
     },
-    /// Answer the request body on the input.
+    /// Answer the request body on the input over sources.
     Answer {
-        origin: Origin<'a>,
+        selection: Selection<'a>,
         plan: Plan,
         mode: Mode,
     },
@@ -82,16 +71,6 @@ fn mode_of(matches: &ArgMatches<'_>) -> Mode
         Mode::Repeat
     } else {
         Mode::Once
-    }
-}
-
-fn custom_options_of(matches: &ArgMatches<'_>) -> CustomOptions
-    ensures { AreCustomOptions (found_of matches.now) result }
-{
-    if matches.get_flag("skip-custom-options") {
-        CustomOptions::Skip
-    } else {
-        CustomOptions::Refuse
     }
 }
 
@@ -126,18 +105,7 @@ fn selection_of<'a>(alloc: Global, matches: &ArgMatches<'a>) -> Result<Selection
         root: matches.get_str("root").unwrap_or(""),
         includes: values_of(alloc, matches, "include")?,
         files: values_of(alloc, matches, "files")?,
-        custom_options: custom_options_of(matches),
     })
-}
-
-/// What is answered from: a set, if the words have one, or sources.
-fn origin_of<'a>(alloc: Global, matches: &ArgMatches<'a>) -> Result<Origin<'a>, AllocError>
-    ensures { IfOk result (IsOrigin (found_of matches.now)) }
-{
-    match matches.get_str("set") {
-        Some(set) => Ok(Origin::Set(set)),
-        None => Ok(Origin::Sources(selection_of(alloc, matches)?)),
-    }
 }
 
 /// A mistake in the words, as `clap` tells it.
@@ -205,14 +173,14 @@ fn task_named<'a>(
             plan: plan_of(matches),
         },
         "serve" => Task::Serve {
-            origin: origin_of(alloc, matches)?,
+            selection: selection_of(alloc, matches)?,
             listen: matches.get_str("listen").unwrap_or(""),
             plan: plan_of(matches),
             mode: mode_of(matches),
             connections: connections_in(matches),
         },
         "answer" => Task::Answer {
-            origin: origin_of(alloc, matches)?,
+            selection: selection_of(alloc, matches)?,
             plan: plan_of(matches),
             mode: mode_of(matches),
         },

@@ -1,3 +1,2 @@
-mod Output
 pub mod Setting
 pub mod Telling

@@ -20,7 +20,6 @@ use Rattle.schema_failure.specs.declared.failure.Failure.TheVariants as failure
 use Rattle.schema_headline.specs.Describe.{IsDescribedBy}
 use Rattle.schema_headline.specs.Headline.{IsSetOf}
 use Rattle.schema_compile.specs.Sources.{AreSourcesOf}
-use Rattle.schema_set.specs.Sets.{IsOfSomeSet, IsToldOfSet}
 use Rattle.schema_sources.specs.Texts.{AreStandard, AreTextsOf, KnownSources}
 use Rattle.source_folder.specs.declared.folder.NamedText.{NamedText}
 
@@ -77,34 +76,21 @@ abbrev pub IsCompileRun : {A B : Type 0} → KnownSources → Option A → Write
 IsCompileRun known file writes writes' done =
     (limits : Limits) × AreStandard limits
     × (IsErrAnd done (λ f. IsToldOfFolder limits known f × (writes' ≡ writes))
-    ⊎ ((texts : List NamedText) × AreTextsOf limits known texts × (set : List ℕ) × IsSetOfTexts limits texts set
+    ⊎ ((texts : List NamedText) × AreTextsOf known texts × (set : List ℕ) × IsSetOfTexts limits texts set
     × IsSetRun file writes writes' set done))
 
--- the exchange over a compilation, by how the command ended
-abbrev pub IsExchanged : {A : Type 0} → Mode → Compilation → Reads → Reads → Writes → Writes → Result A Failure → Type 0
-IsExchanged mode c reads reads' writes writes' (Ok a) =
-    IsExchange {A = Unit {0}} mode c reads reads' writes writes' (Ok tt)
-IsExchanged mode c reads reads' writes writes' (Err f) =
-    (fault : IoFault) × (f ≡ of_exchange fault)
-    × IsExchange {A = Unit {0}} mode c reads reads' writes writes' (Err fault)
-
--- `answer` over a compilation of which this is so: the exchange; or it is told why there is none, and nothing is read or
+-- `answer`: the exchange over what the folder's texts are compiled to; or their first fault, and nothing read or
 -- written
-abbrev pub IsAnswerOver : {A : Type 0} → (Limits → Compilation → Type 0) → (Limits → Failure → Type 0) → Mode → Reads
-    → Reads → Writes → Writes → Result A Failure → Type 0
-IsAnswerOver IsMade IsTold mode reads reads' writes writes' done =
-    (limits : Limits) × AreStandard limits
-    × (IsErrAnd done (λ f. IsTold limits f × (reads' ≡ reads) × (writes' ≡ writes))
-    ⊎ ((c : Compilation) × IsMade limits c × IsExchanged mode c reads reads' writes writes' done))
-
--- over what the folder's texts are compiled to, or their first fault
 abbrev pub IsAnswerRun : {A : Type 0} → KnownSources → Mode → Reads → Reads → Writes → Writes → Result A Failure
     → Type 0
-IsAnswerRun known = IsAnswerOver (λ limits c. IsCompiledTo limits known c) (λ limits f. IsToldOfFolder limits known f)
-
--- over what the set at a path says, or its first fault
-abbrev pub IsSetAnswerRun : {A : Type 0} → List ℕ → Mode → Reads → Reads → Writes → Writes → Result A Failure → Type 0
-IsSetAnswerRun path = IsAnswerOver IsOfSomeSet (λ limits f. IsToldOfSet limits path f)
+IsAnswerRun known mode reads reads' writes writes' (Ok a) =
+    (limits : Limits) × AreStandard limits × (c : Compilation) × IsCompiledTo limits known c
+    × IsExchange {A = Unit {0}} mode c reads reads' writes writes' (Ok tt)
+IsAnswerRun known mode reads reads' writes writes' (Err f) =
+    (limits : Limits) × AreStandard limits
+    × ((IsToldOfFolder limits known f × (reads' ≡ reads) × (writes' ≡ writes))
+    ⊎ ((c : Compilation) × IsCompiledTo limits known c × (fault : IoFault) × (f ≡ of_exchange fault)
+    × IsExchange {A = Unit {0}} mode c reads reads' writes writes' (Err fault)))
 
 -- `explain`: some text is written whole, and no call fails; or one does; or memory was short, and nothing is written
 abbrev pub IsExplainRun : {A : Type 0} → Writes → Writes → Result A Failure → Type 0

@@ -27,4 +27,4 @@ IsToldOfTexts limits texts f =
 -- the failure is that the folder could not be read, want of memory, or the first fault of the folder's texts
 abbrev pub IsToldOfFolder : Limits → KnownSources → Failure → Type 0
 IsToldOfFolder limits known f = (f ≡ failure.Folder) ⊎ ((f ≡ failure.NoMemory)
-    ⊎ ((texts : List NamedText) × AreTextsOf limits known texts × IsToldOfTexts limits texts f))
+    ⊎ ((texts : List NamedText) × AreTextsOf known texts × IsToldOfTexts limits texts f))

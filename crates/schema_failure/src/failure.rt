@@ -11,7 +11,6 @@ ghost use Rattle.schema_failure.specs.Statuses.{code_of, status_after, status_of
 use crate::shown::Shown;
 use counted_io::{IoFault, is_no_memory};
 use proto_base::Kind;
-use proto_sets::SetKind;
 use source_folder::FolderFault;
 use std::alloc::{AllocError, AllocFailed};
 use std::error::Error;
@@ -73,16 +72,9 @@ pub enum Failure {
         column: u32,
         kind: Kind,
     },
-    /// A fault of a set of descriptors: the file that it is about, as users see it, and its kind.
-    Set {
-        file: String,
-        kind: SetKind,
-    },
     Input,
     Output,
     Folder,
-    /// The file of a set could not be read.
-    SetFile,
     Listen,
     Accept,
     NoMemory,
@@ -94,11 +86,10 @@ impl Failure {
         ensures { result ≡ status_of self.now }
     {
         match self {
-            Failure::Source { .. } | Failure::Set { .. } => ExitStatus::Fault,
+            Failure::Source { .. } => ExitStatus::Fault,
             Failure::Input
             | Failure::Output
             | Failure::Folder
-            | Failure::SetFile
             | Failure::Listen
             | Failure::Accept => ExitStatus::Device,
             Failure::NoMemory => ExitStatus::NoMemory,
@@ -128,11 +119,9 @@ impl fmt::Display for Failure {
                 column,
                 kind,
             } => write!(f, "{}:{line}:{column}: {kind}", Shown(file.as_str())),
-            Failure::Set { file, kind } => write!(f, "{}: {kind}", Shown(file.as_str())),
             Failure::Input => f.write_str("device: input"),
             Failure::Output => f.write_str("device: output"),
             Failure::Folder => f.write_str("device: folder"),
-            Failure::SetFile => f.write_str("device: set"),
             Failure::Listen => f.write_str("device: listen"),
             Failure::Accept => f.write_str("device: accept"),
             Failure::NoMemory => f.write_str("out of memory"),

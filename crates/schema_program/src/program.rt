@@ -3,20 +3,18 @@
 ghost use Rattle.std.specs.Prelude.{◌≡◌, ◌-◌, ◌<◌, ◌^◌};
 ghost use Rattle.std.specs.Result.{result_ok};
 ghost use Rattle.schema_failure.specs.Statuses.{status_after};
-ghost use Rattle.schema_program.specs.Performed.{IsAnswerFrom, IsEndOf, IsPerformed, IsRun, IsServeFrom, IsUsageRun, sound_of};
+ghost use Rattle.schema_program.specs.Performed.{IsEndOf, IsPerformed, IsRun, IsUsageRun, sound_of};
 
 use clap::Error;
 use clap::error::ErrorKind;
 use counted_io::{CountedRead, CountedWrite, write_bytes};
-use first_reach::Mode;
 use proto_base::Limits;
 use schema_check::run_check;
-use schema_command_line::{Origin, Selection, Task, task_of};
-use schema_commands::{run_answer, run_answer_set, run_compile, run_describe, run_explain};
+use schema_command_line::{Selection, Task, task_of};
+use schema_commands::{run_answer, run_compile, run_describe, run_explain};
 use schema_failure::{ExitStatus, Failure, Verdict, write_failure};
-use schema_serve::{run_serve, run_serve_set};
+use schema_serve::run_serve;
 use schema_sources::{SystemFolder, trouble_of};
-use share_work::Plan;
 use std::alloc::{AllocGlobal, Global};
 use std::io::Write;
 use std::net::Net;
@@ -27,15 +25,12 @@ use std::thread::Threads;
 use std::time::Clock;
 
 /// The folders and files that the words select.
-fn folder_of<'a, R>(rt: &'a R, selection: &'a Selection<'a>) -> SystemFolder<'a, R>
-    ensures { result.custom_options ≡ selection.now.custom_options }
-{
+fn folder_of<'a, R>(rt: &'a R, selection: &'a Selection<'a>) -> SystemFolder<'a, R> {
     SystemFolder {
         rt,
         root: selection.root,
         includes: &selection.includes,
         files: &selection.files,
-        custom_options: selection.custom_options,
     }
 }
 
@@ -46,63 +41,6 @@ fn sound(done: Result<(), Failure>) -> Result<Verdict, Failure>
     match done {
         Ok(()) => Ok(Verdict::Sound),
         Err(failure) => Err(failure),
-    }
-}
-
-/// Serves from sources, or from a set.
-fn serve_from<R, O>(
-    rt: &R,
-    origin: &Origin,
-    listen: &str,
-    plan: Plan,
-    mode: Mode,
-    connections: Option<u64>,
-    output: &mut O,
-) -> Result<(), Failure>
-where
-    R: Wait + Threads + Files + Clock + RandomSource + AllocGlobal + Sync + Clone + Drop + Net,
-    R::File: Sync,
-    R::Dir: Sync,
-    O: CountedWrite,
-    requires { (O.writes output.old).failures < 2 ^ 64 - 1 }
-    ensures { IsServeFrom origin.now listen.now connections (O.writes output.old)
-        (O.writes output.new) result }
-{
-    match origin {
-        Origin::Sources(selection) => {
-            let folder = folder_of(rt, selection);
-            run_serve(rt, &folder, listen, plan, mode, connections, output)
-        }
-        Origin::Set(set) => run_serve_set(rt, set, listen, plan, mode, connections, output),
-    }
-}
-
-/// Answers from sources, or from a set.
-fn answer_from<R, I, O>(
-    rt: &R,
-    origin: &Origin,
-    plan: Plan,
-    mode: Mode,
-    input: &mut I,
-    output: &mut O,
-) -> Result<(), Failure>
-where
-    R: Threads + Files + AllocGlobal + Sync,
-    R::File: Sync,
-    R::Dir: Sync,
-    I: CountedRead,
-    O: CountedWrite,
-    requires reader_counts { (I.reads input.old).failures < 2 ^ 64 - 1 }
-    requires writer_counts { (O.writes output.old).failures < 2 ^ 64 - 1 }
-    ensures { IsAnswerFrom origin.now mode (I.reads input.old) (I.reads input.new)
-        (O.writes output.old) (O.writes output.new) result }
-{
-    match origin {
-        Origin::Sources(selection) => {
-            let folder = folder_of(rt, selection);
-            run_answer(rt, &folder, plan, mode, input, output)
-        }
-        Origin::Set(set) => run_answer_set(rt, set, plan, mode, input, output),
     }
 }
 
@@ -133,14 +71,22 @@ where
             run_check(rt, &folder, selection.root, *plan, output)
         }
         Task::Serve {
-            origin,
+            selection,
             listen,
             plan,
             mode,
             connections,
-        } => sound(serve_from(rt, origin, listen, *plan, *mode, *connections, output)),
-        Task::Answer { origin, plan, mode } => {
-            sound(answer_from(rt, origin, *plan, *mode, input, output))
+        } => {
+            let folder = folder_of(rt, selection);
+            sound(run_serve(rt, &folder, listen, *plan, *mode, *connections, output))
+        }
+        Task::Answer {
+            selection,
+            plan,
+            mode,
+        } => {
+            let folder = folder_of(rt, selection);
+            sound(run_answer(rt, &folder, *plan, *mode, input, output))
         }
         Task::Describe { name } => sound(run_describe(rt, name, input, output)),
         Task::Explain { topic } => sound(run_explain(rt.alloc(), *topic, output)),

@@ -1,6 +1,6 @@
-//! The command `serve`: reflection over the sources of a folder, or over a set, by HTTP.
+//! The command `serve`: reflection over the sources of a folder, by HTTP.
 #![tactic(auto)]
 
 mod serve;
 
-pub use serve::{run_serve, run_serve_set};
+pub use serve::run_serve;

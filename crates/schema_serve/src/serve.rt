@@ -2,23 +2,20 @@
 
 ghost use Rattle.std.specs.Prelude.{◌≡◌, ◌-◌, ◌<◌, ◌^◌, IfErr, IfOk};
 ghost use Rattle.schema_failure.specs.declared.failure.Failure.TheVariants as failures;
-ghost use Rattle.schema_serve.specs.Runs.{IsAddress, IsServeRun, IsService, IsSetServeRun, of_service};
+ghost use Rattle.schema_serve.specs.Runs.{IsAddress, IsServeRun, of_service};
 
 use counted_io::{CountedWrite, write_bytes};
 use grpcweb_core::Mode;
 use grpcweb_service::serve;
 use http_connection::ServeFault;
 use proto_base::Limits;
-use proto_compilation::Compiled;
 use schema_compile::compile_folder;
 use schema_failure::Failure;
-use schema_set::compiled_set;
 use schema_sources::SourceFolder;
 use share_work::{NoGate, Plan};
 use std::alloc::AllocGlobal;
 use std::net::{Net, SocketAddr};
 use std::random::RandomSource;
-use std::rt::Files;
 use std::sync::{Arc, Wait};
 use std::thread::Threads;
 use std::time::Clock;
@@ -50,45 +47,9 @@ where
     Ok((runtime, listener))
 }
 
-/// Serves reflection over a compilation at an address and port, and writes `listening on ADDRESS:PORT` first. It ends after so
-/// many connections, where their count is given.
-fn serve_over<R, O>(
-    rt: &R,
-    compiled: Compiled,
-    listen: &str,
-    plan: Plan,
-    mode: Mode,
-    connections: Option<u64>,
-    output: &mut O,
-) -> Result<(), Failure>
-where
-    R: Wait + Threads + Clock + RandomSource + AllocGlobal + Sync + Clone + Drop + Net,
-    O: CountedWrite,
-    requires { (O.writes output.old).failures < 2 ^ 64 - 1 }
-    ensures { IsService listen.now connections (O.writes output.old) (O.writes output.new) result }
-{
-    let shared = Arc::new(rt.alloc(), compiled)?;
-    let (mut runtime, listener) = listen_at(rt, listen)?;
-    let bound = listener.local_addr().map_err(|_| Failure::Listen)?;
-    let line = format!(in rt.alloc(); "listening on {bound}\n")?;
-    write_bytes(output, line.as_bytes())?;
-    match serve(
-        rt,
-        &mut runtime,
-        listener,
-        shared,
-        plan,
-        NoGate,
-        mode,
-        connections,
-    ) {
-        Ok(_) => Ok(()),
-        Err(fault) => Err(failure_of(fault)),
-    }
-}
-
-/// Serves reflection over the sources of a folder. It fails with the first fault of the sources, with `Failure::Listen` where it
-/// cannot listen there, and with what ends the service.
+/// Serves reflection over the sources of a folder at an address and port, and writes `listening on ADDRESS:PORT` first. It ends
+/// after so many connections, where their count is given. It fails with the first fault of the sources, with `Failure::Listen`
+/// where it cannot listen there, and with what ends the service.
 pub fn run_serve<R, F, O>(
     rt: &R,
     folder: &F,
@@ -107,26 +68,22 @@ where
         (O.writes output.new) result }
 {
     let compiled = compile_folder(rt, folder, &Limits::standard(), plan)?;
-    serve_over(rt, compiled, listen, plan, mode, connections, output)
-}
-
-/// Serves reflection over the files of the set at a path, as `run_serve` does over sources.
-pub fn run_serve_set<R, O>(
-    rt: &R,
-    set: &str,
-    listen: &str,
-    plan: Plan,
-    mode: Mode,
-    connections: Option<u64>,
-    output: &mut O,
-) -> Result<(), Failure>
-where
-    R: Wait + Threads + Files + Clock + RandomSource + AllocGlobal + Sync + Clone + Drop + Net,
-    O: CountedWrite,
-    requires { (O.writes output.old).failures < 2 ^ 64 - 1 }
-    ensures { IsSetServeRun set.now listen.now connections (O.writes output.old)
-        (O.writes output.new) result }
-{
-    let compiled = compiled_set(rt, set, &Limits::standard())?;
-    serve_over(rt, compiled, listen, plan, mode, connections, output)
+    let shared = Arc::new(rt.alloc(), compiled)?;
+    let (mut runtime, listener) = listen_at(rt, listen)?;
+    let bound = listener.local_addr().map_err(|_| Failure::Listen)?;
+    let line = format!(in rt.alloc(); "listening on {bound}\n")?;
+    write_bytes(output, line.as_bytes())?;
+    match serve(
+        rt,
+        &mut runtime,
+        listener,
+        shared,
+        plan,
+        NoGate,
+        mode,
+        connections,
+    ) {
+        Ok(_) => Ok(()),
+        Err(fault) => Err(failure_of(fault)),
+    }
 }

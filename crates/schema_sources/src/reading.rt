@@ -4,7 +4,8 @@ ghost use Rattle.std.specs.Prelude.{◌≡◌, Ok, IfErr, IfOk, map, string_byte
 ghost use Rattle.proto_base.specs.NameOrder.{NamesRise};
 ghost use Rattle.share_work.specs.Shares.{GivesItems};
 ghost use Rattle.source_folder.specs.Folder.{names_of};
-ghost use Rattle.schema_sources.specs.Reading.{AreTakenOf, IsFirstFault, IsReadUnder};
+ghost use Rattle.schema_sources.specs.Reading.{IsFirstFault, IsReadUnder};
+ghost use Rattle.schema_sources.specs.Texts.{AreTextsOf};
 
 use crate::folder::SourceFolder;
 use proto_base::Limits;
@@ -14,7 +15,7 @@ use source_folder::{FolderFault, NamedText};
 use std::alloc::{AllocError, AllocGlobal, Global};
 use std::thread::Threads;
 
-/// The source of a name that a folder lists, as the folder's custom options are taken.
+/// The source of a name that a folder lists.
 fn source_under<F: SourceFolder>(
     alloc: Global,
     folder: &F,
@@ -23,8 +24,7 @@ fn source_under<F: SourceFolder>(
 ) -> Result<NamedText, FolderFault>
     ensures { IsReadUnder (F.sources folder.now) name.now result }
 {
-    let mut text = folder.text(name, limits)?;
-    folder.custom_options().apply(alloc, &mut text)?;
+    let text = folder.text(name, limits)?;
     let name = String::from_str(alloc, name)?;
     Ok(NamedText { name, text })
 }
@@ -108,7 +108,7 @@ pub(crate) fn listed_sources<R, F>(
 where
     R: Threads + AllocGlobal + Sync,
     F: SourceFolder + Sync,
-    ensures texts { IfOk result (λ texts. AreTakenOf (F.sources folder.now) texts.items) }
+    ensures texts { IfOk result (λ texts. AreTextsOf (F.sources folder.now) texts.items) }
     ensures order { IfOk result (λ texts. NamesRise (names_of texts.items)) }
 {
     let names = folder.names()?;

@@ -1,15 +1,13 @@
 //! Folders of the system. What is in them is not known.
 
-ghost use Rattle.std.specs.Prelude.{◌≡◌, IfOk, None, OnOk, map, string_bytes};
+ghost use Rattle.std.specs.Prelude.{IfOk, None, map, string_bytes};
 ghost use Rattle.source_folder.specs.Folder.{names_of};
 ghost use Rattle.proto_base.specs.NameOrder.{NamesRise};
-ghost use Rattle.schema_sources.specs.Texts.{unknown};
 
 use crate::folder::SourceFolder;
 use crate::places::Elsewhere;
 use proto_base::Limits;
 use share_work::Plan;
-use skipped_sources::{CustomOptions, Skipping};
 use source_folder::{
     FolderFault, FolderTrouble, NamedText, Reason, TroubledEntry, listed_text, read_source,
     source_names, source_path, sources_in,
@@ -111,8 +109,6 @@ pub struct SystemFolder<'a, R> {
     pub includes: &'a [&'a str],
     /// The names of the sources, where not all that lie below the root are sources.
     pub files: &'a [&'a str],
-    /// What is done about custom options.
-    pub custom_options: CustomOptions,
 }
 
 impl<R: Files + AllocGlobal> SystemFolder<'_, R> {
@@ -176,7 +172,7 @@ impl<R: Files + AllocGlobal> Shelf for SystemFolder<'_, R> {
 }
 
 impl<R: Files + AllocGlobal> SourceFolder for SystemFolder<'_, R> {
-    ghost sources = { λ folder. unknown folder.custom_options };
+    ghost sources = { λ _. None };
 
     fn names(&self) -> Result<Vec<String>, FolderFault> {
         Ok(self.given_names()?)
@@ -199,10 +195,6 @@ impl<R: Files + AllocGlobal> SourceFolder for SystemFolder<'_, R> {
 
     fn has_shelf(&self) -> bool {
         !self.includes.is_empty() || !self.files.is_empty()
-    }
-
-    fn custom_options(&self) -> CustomOptions {
-        self.custom_options
     }
 }
 
@@ -227,48 +219,6 @@ impl<R: Files + AllocGlobal> Shelf for Watched<'_, R> {
     }
 }
 
-/// Takes each text that was read as these custom options are.
-fn apply_to_each(
-    alloc: Global,
-    options: CustomOptions,
-    sources: &mut [NamedText],
-) -> Result<(), AllocError>
-    ensures { OnOk result (names_of sources.new ≡ names_of sources.old) }
-{
-    for source in sources.iter_mut() {
-        options.apply(alloc, &mut source.text)?;
-    }
-    Ok(())
-}
-
-/// Searches once more for what sources import, as they are taken.
-fn search_again<R>(
-    rt: &R,
-    mut given: Vec<NamedText>,
-    watched: &Watched<'_, R>,
-    limits: &Limits,
-) -> Result<(), FolderFault>
-where
-    R: Threads + Files + AllocGlobal + Sync,
-    requires { NamesRise (names_of given.items) }
-{
-    let alloc = rt.alloc();
-    let options = watched.folder.custom_options;
-    apply_to_each(alloc, options, &mut given)?;
-    let plan = Plan::single();
-    match options {
-        CustomOptions::Refuse => with_imports(rt, given, watched, limits, plan)?,
-        CustomOptions::Skip => {
-            let shelf = Skipping {
-                alloc,
-                shelf: watched,
-            };
-            with_imports(rt, given, &shelf, limits, plan)?
-        }
-    };
-    Ok(())
-}
-
 /// What is in the way of reading the sources of a folder and what they import: it reads them once more, and so finds nothing
 /// where the trouble has gone.
 pub fn trouble_of<R>(rt: &R, folder: &SystemFolder<'_, R>, limits: &Limits) -> Option<FolderTrouble>
@@ -283,6 +233,6 @@ where
         folder,
         trouble: OnceCell::new(),
     };
-    let _ = search_again(rt, given, &watched, limits);
+    let _ = with_imports(rt, given, &watched, limits, Plan::single());
     watched.trouble.into_inner()
 }
