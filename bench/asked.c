@@ -57,7 +57,7 @@ int main(int count, char **words)
     }
     static char body[BODY];
     size_t length = fread(body, 1, BODY, stdin);
-    int head = snprintf(request, HEAD, "POST %s HTTP/1.1\r\nhost: h\r\ncontent-type: application/grpc-web+proto\r\ncontent-length: %zu\r\n\r\n", words[2], length);
+    int head = snprintf(request, HEAD, "POST %s HTTP/1.1\r\nhost: h\r\nconnection: close\r\ncontent-type: application/grpc-web+proto\r\ncontent-length: %zu\r\n\r\n", words[2], length);
     if (head < 0 || head >= HEAD)
         return 2;
     memcpy(request + head, body, length);

@@ -161,6 +161,16 @@ if [ "$("$program" compile --root named 2>&1)" != 'a\u{a}b\u{9}.proto:1:32: Type
     fail "a name with control characters: $("$program" compile --root named 2>&1)"
 fi
 
+# So do the path of an entry that cannot be read, and the root.
+mkdir odd && mkfifo $'odd/a\nb.proto'
+"$program" check --root odd >report 2>faults
+if [ "$?" != 3 ] || [ "$(<faults)" != $'device: folder\nodd/a\\u{a}b.proto: it is a device or a pipe' ]; then
+    fail "an entry with control characters: $(<faults)"
+fi
+mkdir $'top\nmost' && checked 0 $'top\nmost' <<'REPORT'
+no file that ends in .proto below top\u{a}most
+REPORT
+
 # The first of these faults is the one that compile tells.
 "$program" compile --root mixed >/dev/null 2>faults
 if [ "mixed/$(<faults)" != "$("$program" check --root mixed | head -n 1)" ]; then

@@ -39,7 +39,11 @@ while read -r number title; do
     else
         cp "$folder/$number.proto" "$root/a.proto"
     fi
-    "$program" compile --root "$root" >"$folder/out" 2>"$folder/err"
+    if [ -f "$root/a.pb" ]; then
+        (cd "$root" && "$program" answer --set a.pb </dev/null >"$folder/out" 2>"$folder/err")
+    else
+        "$program" compile --root "$root" >"$folder/out" 2>"$folder/err"
+    fi
     status=$?
     if [ "$(<"$folder/$number.line")" = compiles ]; then
         if [ "$status" != 0 ] || [ -s "$folder/err" ]; then
@@ -81,8 +85,11 @@ while IFS= read -r listed; do
     done
 done <"$folder/kinds"
 
-# The kinds of the program are those of the page, in their order.
-sed -n '/^pub enum Kind {/,/^}/s/^    \([A-Z][A-Za-z0-9]*\) = .*/\1/p' crates/proto_base/src/kind.rt | sort >"$folder/named"
+# The kinds of the program, of sources and of sets, are those of the page.
+{
+    sed -n '/^pub enum Kind {/,/^}/s/^    \([A-Z][A-Za-z0-9]*\) = .*/\1/p' crates/proto_base/src/kind.rt
+    sed -n '/^pub enum SetKind {/,/^}/s/^    \([A-Z][A-Za-z0-9]*\),$/\1/p' crates/proto_sets/src/fault.rt
+} | sort -u >"$folder/named"
 sed -n 's/^### //p' docs/FAULTS.md | grep -v ' ' | sort | diff "$folder/named" - || fail 'other kinds than the program has'
 echo "$0: $entries entries"
 [ "$entries" -gt 0 ] && [ "$failures" = 0 ]

@@ -40,6 +40,16 @@ explain explain Nothing
 --output compile --root . --output
 LINES
 
+# A word that is no UTF-8: it is shown with its bytes escaped.
+for word in $'\xff' $'--root=\xc3' $'a\x80b'; do
+    "$program" compile --root . "$word" </dev/null >"$folder/output" 2>"$folder/faults"
+    got=$?
+    shown=$(printf '%s' "$word" | sed 's/\xff/\\xff/; s/\xc3/\\xc3/; s/\x80/\\x80/')
+    if [ "$got" != 2 ] || [ -s "$folder/output" ] || [ "$(head -n 1 "$folder/faults")" != "error: the word '$shown' is no UTF-8" ]; then
+        failed "a word that is no UTF-8: $shown" "$got"
+    fi
+done
+
 # Help: a word of it, and the command line.
 while read -r word line; do
     # shellcheck disable=SC2086
@@ -86,6 +96,30 @@ device output "$point" /dev/full explain
 device folder "$point" "$folder/output" compile --root "$folder/none"
 device folder "$point" "$folder/output" compile --root "$folder/sources" none.proto
 device folder "$point" "$folder/output" compile --root "$point"
+# more NAME LINE WORDS..: with --verbose the line of this device has another one behind it.
+more() {
+    local name=$1 line=$2
+    shift 2
+    "$program" "$@" --verbose <"$point" >"$folder/output" 2>"$folder/faults"
+    got=$?
+    if [ "$got" != 3 ] || [ -s "$folder/output" ] || [ "$(cat "$folder/faults")" != "device: $name"$'\n'"$line" ]; then
+        failed "device: $name: $* --verbose" "$got"
+    fi
+}
+missing='No such file or directory (os error 2)'
+more folder "$folder/none: it is not there" compile --root "$folder/none"
+more folder "$folder/none: it is not there" check --root "$folder/none"
+more folder "$folder/none: it is not there" answer --root "$folder/none"
+more folder "$folder/none: it is not there" serve --root "$folder/none" --listen 127.0.0.1:0
+more folder "$folder/sources/none.proto: it is not there" compile --root "$folder/sources" none.proto
+more set "$folder/none.pb: $missing" answer --set "$folder/none.pb"
+more set "$folder: Is a directory (os error 21)" serve --set "$folder" --listen 127.0.0.1:0
+more output "$folder/none/set.pb: $missing" compile --root "$folder/sources" --output "$folder/none/set.pb"
+more output "$folder: is a directory" compile --root "$folder/sources" --output "$folder"
+more listen 'localhost:80: no address and port' serve --root "$folder/sources" --listen localhost:80
+more listen '192.0.2.1:80: Cannot assign requested address (os error 99)' serve --root "$folder/sources" --listen 192.0.2.1:80
+# Where the sources have no fault it adds nothing.
+"$program" compile --root "$folder/sources" --verbose >/dev/null 2>"$folder/faults" && [ ! -s "$folder/faults" ] || failed 'compile --verbose' "$?"
 # A line that cannot be printed leaves the status.
 "$program" describe a.proto <"$folder" >"$folder/output" 2>/dev/full
 got=$?
@@ -93,7 +127,7 @@ got=$?
 
 # The version, with the logic that README names.
 logic=$(sed -n 's/^With the Rattle kits .*, of one \(logic\) `\(.*\)`:$/\1 \2/p' README.md)
-if [ "$("$program" --version)" != "schema_server 1.1.0, $logic" ]; then
+if [ "$("$program" --version)" != "schema_server 1.2.0, $logic" ]; then
     failed "--version: $("$program" --version)" "$?"
 fi
 

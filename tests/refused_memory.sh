@@ -64,6 +64,15 @@ sweep REFUSE_THREAD_AT 0 "$shares" '' '' compile --root "$folder/shares" --worke
 mkdir "$folder/alone" && cp "$folder/sources/a.proto" "$folder/alone/"
 sweep REFUSE_AT 0 "$set" '' '' compile --root "$folder/alone" --include "$folder/sources" --workers 1
 sweep REFUSE_AT 0 "$set" '' '' compile --root "$folder/sources" --workers 2 --cut 1 a.proto
+# The same sources with custom options that are skipped, by one worker and by two.
+mkdir "$folder/custom" "$folder/custom/p"
+printf '%simport "p/b.proto"; import "none.proto"; option (x) = { y: 1 }; message A { p.B b = 1 [(z) = 2]; }' "$P" >"$folder/custom/a.proto"
+printf '%spackage p; message B {} extend B { int32 c = 1; } service S { rpc R(B) returns (B); }' "$P" >"$folder/custom/p/b.proto"
+for words in '--workers 1' '--workers 2 --cut 1'; do
+    # shellcheck disable=SC2086 # the words are several
+    sweep REFUSE_AT 0 "$set" '' '' compile --root "$folder/custom" --skip-custom-options $words
+done
+sweep REFUSE_AT 0 "$set" '' '' compile --root "$folder/custom" --include "$folder/sources" --skip-custom-options a.proto
 # Into a file: it is whole in the end, and stands alone in its folder.
 mkdir "$folder/written"
 sweep REFUSE_AT 0 '' '' '' compile --root "$folder/sources" --workers 1 --output "$folder/written/set.pb"
@@ -84,6 +93,12 @@ for words in '--workers 1' '--workers 2 --cut 1'; do
     sweep REFUSE_AT 0 "$reply$reply"'\0200\0\0\0\017grpc-status:0\r\n' '' "$body" answer --root "$folder/sources" $words
 done
 sweep REFUSE_THREAD_AT 0 "$reply$reply"'\0200\0\0\0\017grpc-status:0\r\n' '' "$body" answer --root "$folder/sources" --workers 2 --cut 1
+# The same over the set, which is whole, cut short, or not there.
+printf '%b' "$set" >"$folder/whole.pb"
+head -c -1 "$folder/whole.pb" >"$folder/short.pb"
+sweep REFUSE_AT 0 "$reply$reply"'\0200\0\0\0\017grpc-status:0\r\n' '' "$body" answer --set "$folder/whole.pb" --workers 2 --cut 1
+sweep REFUSE_AT 1 '' "$folder/short.pb: MalformedSet" '' answer --set "$folder/short.pb" --workers 1
+sweep REFUSE_AT 3 '' 'device: set' '' answer --set "$folder/none.pb" --workers 1
 # A folder with a file that can't be read: reading starts threads, and nothing comes after it.
 mkdir "$folder/unread"
 for name in a b c; do

@@ -1,6 +1,6 @@
 #!/usr/bin/env bash
-# Each allocation of the service refused in turn, with a client. The service may end, with 4 and `out of memory`, or with 3 where its
-# runtime met the refusal; or the connection that met it ends, or is answered as ever, and the one after it is served.
+# Each allocation of the service refused in turn, with a client. The service may end, with 4 and `out of memory`; or the connection that
+# met it ends, or is answered as ever, and the one after it is served.
 set -u
 cd "$(dirname "$(readlink -f "$0")")/.." || exit 2
 . tests/common.bash
@@ -21,12 +21,9 @@ ask() {
         -o "$folder/response" "http://127.0.0.1:$port$path" 2>/dev/null
 }
 
-# ended NUMBER STATUS: that the service ended so is told where it may not.
+# ended NUMBER STATUS: that the service ended so is told where it may not. A log stands before its line.
 ended() {
-    case "$2 $(<"$folder/faults")" in
-    '4 out of memory' | '3 device: listen' | '3 device: accept') return 0 ;;
-    esac
-    fail "allocation $1: status $2, $(<"$folder/faults")"
+    [ "$2 $(tail -n 1 "$folder/faults")" = '4 out of memory' ] || fail "allocation $1: status $2, $(<"$folder/faults")"
 }
 
 # try NUMBER: one run with this allocation refused, and two connections; `where` is where the refusal came.
@@ -34,7 +31,7 @@ try() {
     : >"$folder/refused"
     : >"$folder/line"
     timeout 60 env REFUSE_AT="$1" LD_PRELOAD="$folder/refuse.so" "$program" serve --root "$folder/sources" --listen 127.0.0.1:0 \
-        --connections 2 --workers 1 >"$folder/line" 2>"$folder/faults" 9>>"$folder/refused" &
+        --connections 2 --workers 1 $words >"$folder/line" 2>"$folder/faults" 9>>"$folder/refused" &
     local service=$! status first=0 second=0 met=0
     if ! says_port "$service" "$folder/line"; then
         wait "$service"
@@ -58,24 +55,32 @@ try() {
     fi
 }
 
-# The first allocation after the start, found by strides, and from there each until none is refused.
-at=1
-where=before
-while [ "$where" = before ] && [ "$at" -lt 9000 ]; do
-    try "$at"
-    at=$((at + 40))
-done
-[ "$where" != before ] || fail 'the service never listened'
-at=$((at - 80))
-[ "$at" -ge 1 ] || at=1
+# sweep WORDS: the first allocation after the start of the service with these words, found by strides, and from there each until none is
+# refused.
+sweep() {
+    words=$1
+    at=1
+    where=before
+    while [ "$where" = before ] && [ "$at" -lt 9000 ]; do
+        try "$at"
+        at=$((at + 40))
+    done
+    [ "$where" != before ] || fail 'the service never listened'
+    at=$((at - 80))
+    [ "$at" -ge 1 ] || at=1
+    while [ "$failures" -lt 5 ]; do
+        try "$at"
+        [ "$where" != nowhere ] || break
+        at=$((at + 1))
+        tried=$((tried + 1))
+        [ "$tried" -lt 18000 ] || fail "no end after $tried"
+    done
+}
+
 tried=0
-while [ "$failures" -lt 5 ]; do
-    try "$at"
-    [ "$where" != nowhere ] || break
-    at=$((at + 1))
-    tried=$((tried + 1))
-    [ "$tried" -lt 9000 ] || fail "no end after $tried"
-done
+sweep ''
+sweep '--clients 2 --client-seconds 60'
+sweep --verbose
 echo "$0: $tried allocations refused in turn"
 [ "$tried" -gt 0 ] || fail 'nothing was refused'
 [ "$failures" = 0 ]

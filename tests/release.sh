@@ -7,19 +7,10 @@ cd "$(dirname "$(readlink -f "$0")")/.." || exit 2
 . tests/common.bash
 needs dpkg-deb dpkg-shlibdeps strip git
 . tests/serving.bash
-built=$program
+. tests/clone.bash
 version=$("$built" --version) && version=${version#schema_server } && version=${version%%,*}
 package=sagetower_${version}_amd64.deb
 tarball=sagetower-$version-linux-x86_64.tar.gz
-unset GLIBC_TUNABLES GIT_DIR GIT_WORK_TREE GIT_INDEX_FILE
-export SCHEMA_SERVER=$built GIT_CONFIG_GLOBAL=/dev/null GIT_CONFIG_SYSTEM=/dev/null
-# The commit is of a time to come, which no file has by itself.
-export GIT_AUTHOR_NAME=A GIT_AUTHOR_EMAIL=a@example.org GIT_AUTHOR_DATE=2037-01-02T03:04:05Z
-export GIT_COMMITTER_NAME=A GIT_COMMITTER_EMAIL=a@example.org GIT_COMMITTER_DATE=2037-01-02T03:04:05Z
-clone=$folder/clone
-mkdir -p "$clone/crates" && cp -r .gitignore CHANGELOG.md README.md docs examples share tests "$clone" || exit 2
-[ ! -f LICENSE ] || cp LICENSE "$clone" || exit 2
-git -C "$clone" init -q -b main && git -C "$clone" add -A && git -C "$clone" commit -qm 'A version' || exit 2
 commit=$(git -C "$clone" rev-parse HEAD)
 commit=${commit:0:12}
 
@@ -49,8 +40,10 @@ stands() {
     cat <<'FILES'
 755 bin/schema_server
 644 lib/sagetower/commit
+755 lib/sagetower/probe
 755 lib/sagetower/schema_server
 644 lib/systemd/system/schema-server.service
+644 lib/systemd/system/schema-server@.service
 644 share/bash-completion/completions/schema_server
 644 share/doc/sagetower/CHANGELOG.md
 644 share/doc/sagetower/README.md
@@ -141,6 +134,7 @@ served() {
         awk '/^GLIBC_TUNABLES=/ || (inside && /^glibc[.]/) { inside = 1; print; next } { inside = 0 }' | paste -sd :)
     [ "$got" = "GLIBC_TUNABLES=$1" ] || fail "$program has not the tunables $1, but $got"
     [ "$(readlink "/proc/$server/exe")" = "$(readlink -f "$prefix/lib/sagetower/schema_server")" ] || fail "$program: another process serves"
+    "$prefix/lib/sagetower/probe" "127.0.0.1:$port" >"$folder/said" 2>&1 || fail "$(<"$folder/said")"
     if has curl 'nothing was asked of the service'; then
         got=$(curl -sS --max-time 20 -H 'content-type: application/grpc-web' --data-binary "@$folder/request" \
             "$url/grpc.reflection.v1.ServerReflection/ServerReflectionInfo" | to_hex)

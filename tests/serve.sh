@@ -117,6 +117,150 @@ ends_by_itself
 start --root "$folder/F" --connections 0
 ends_by_itself
 
+# ---- clients that hold their connections
+
+# hold N: so many clients that connect and send nothing; their descriptors go to `held`.
+hold() {
+    local turn descriptor
+    held=()
+    for ((turn = 0; turn < $1; turn++)); do
+        exec {descriptor}<>"/dev/tcp/127.0.0.1/$port" && held+=("$descriptor")
+    done
+}
+
+# let_go: ends them.
+let_go() {
+    local descriptor
+    for descriptor in "${held[@]}"; do
+        exec {descriptor}>&-
+    done
+}
+
+# soon TITLE SECONDS: a request is answered within so many seconds.
+soon() {
+    from_hex "$reply_a $t0" >"$folder/wanted"
+    curl -s --max-time "$2" -o "$folder/got" -H "$web" --data-binary "@$folder/request" "$url$v1" || fail "$1: curl ended with $?"
+    cmp -s "$folder/wanted" "$folder/got" || fail "$1: another answer"
+}
+
+start --root "$folder/F" --client-seconds 1
+hold 1
+soon 'an idle client before it, one client at once' 4
+let_go
+stop
+start --root "$folder/F" --clients 64 --client-seconds 1
+hold 50
+soon 'fifty idle clients before it' 2
+sleep 2
+# Their time is over: the service has closed them.
+for descriptor in "${held[@]}"; do
+    timeout 5 cat <&"$descriptor" >/dev/null || fail 'an idle client is held beyond its time'
+done
+let_go
+stop
+start --root "$folder/F" --clients 8
+hold 7
+soon 'seven idle clients of eight' 2
+let_go
+stop
+
+# A client that does not read its answer of many megabytes, and one that reads it slowly, in time.
+mkdir "$folder/many" && awk -v folder="$folder/many" -v files=2000 -f bench/sources.awk
+names=$(cd "$folder/many" && find . -name '*.proto' -printf '%P\n')
+while IFS= read -r name; do frame 3 "$name"; done <<<"$names" >"$folder/all"
+"$program" answer --root "$folder/many" <"$folder/all" >"$folder/wanted"
+start --root "$folder/many" --client-seconds 3
+exec 3<>"/dev/tcp/127.0.0.1/$port"
+{
+    printf 'POST %s HTTP/1.1\r\nhost: h\r\n%s\r\ncontent-length: %s\r\n\r\n' "$v1" "$web" "$(wc -c <"$folder/all")"
+    cat "$folder/all"
+} >&3
+curl -s --max-time 20 -o "$folder/got" -H "$web" --data-binary "@$folder/all" "$url$v1" || fail "behind a client that does not read: curl ended with $?"
+cmp -s "$folder/wanted" "$folder/got" || fail 'behind a client that does not read: another answer'
+[ "$(wc -c <&3)" -lt "$(wc -c <"$folder/wanted")" ] || fail 'a client that does not read gets its answer beyond its time'
+exec 3>&-
+stop
+
+# Two hundred clients at once, by one at a time and by sixty-four.
+printf '\0\0\0\0\2:\0' >"$folder/services"
+"$program" answer --root "$folder/many" <"$folder/services" >"$folder/wanted"
+for words in '' '--clients 64' '--clients 64 --client-seconds 30 --workers 1'; do
+    # shellcheck disable=SC2086
+    start --root "$folder/many" $words --connections 200
+    for ((turn = 0; turn < 200; turn++)); do
+        curl -s --max-time 60 -o "$folder/got.$turn" -H "$web" --data-binary "@$folder/services" "$url$v1" &
+        asking[turn]=$!
+    done
+    for ((turn = 0; turn < 200; turn++)); do
+        wait "${asking[turn]}" && cmp -s "$folder/wanted" "$folder/got.$turn" || fail "$words: client $turn of two hundred"
+    done
+    ends_by_itself
+done
+
+# ---- what --verbose tells
+
+# logged LINE..: the service ends by itself, and these lines stand on standard error; the time of an answer is T.
+logged() {
+    ends_by_itself
+    printf '%s\n' "$@" >"$folder/wanted"
+    sed 's/, [0-9]*[.][0-9] ms$/, T ms/' "$folder/faults" >"$folder/got"
+    same 'the lines of --verbose' "$folder/wanted" "$folder/got"
+}
+
+# send TEXT: a client that sends this, and is gone.
+send() {
+    exec 3<>"/dev/tcp/127.0.0.1/$port" && printf '%b' "$1" >&3
+    exec 3>&-
+}
+
+head -c 100000 /dev/zero | tr '\0' x >"$folder/large"
+start --root "$folder/F" --verbose --connections 10
+asks 'a request' 200 "$reply_a $t0" -H "$web" --data-binary "@$folder/request" "$url$v1"
+asks 'a request twice' 200 "$reply_a 00 00 00 00 0D 12 09 $request_a 22 00 $t0" -H "$web" --data-binary "@$folder/twice" "$url$v1alpha"
+asks 'GET' 405 '' "$url$v1"
+asks 'another path' 200 "$t12" -H "$web" --data-binary "@$folder/request" "$url/x%0Ay?z"
+asks 'a body of one byte over the limit' 200 "$t8" -H "$web" --data-binary "@$folder/long" "$url$v1"
+curl -s -o /dev/null --max-time 20 -H "x: $(<"$folder/large")" "$url/" || fail "a head that is too large: curl ended with $?"
+send ''
+send 'no HTTP at all\r\n\r\n'
+send 'POST / HT'
+send "POST $v1 HTTP/1.1\r\nhost: h\r\n$web\r\ncontent-length: 14\r\n\r\nabc"
+logged "POST $v1 200 grpc-status 0, 14 bytes, 1 request, 93 bytes, T ms" \
+    "POST $v1alpha 200 grpc-status 0, 28 bytes, 2 requests, 111 bytes, T ms" \
+    "GET $v1 405, 0 bytes, 0 bytes, T ms" \
+    'POST /x%0Ay 200 grpc-status 12, 14 bytes, 0 requests, 21 bytes, T ms' \
+    "POST $v1 200 grpc-status 8, 1048577 bytes, 0 requests, 20 bytes, T ms" \
+    'connection ended without a request: message head is too large' \
+    'connection ended without a request: its client closed it' \
+    'connection ended without a request: invalid HTTP version' \
+    'connection ended without a request: connection closed before message completed' \
+    'connection ended without an answer: the body broke off'
+
+# What standard error refuses is lost, and nothing else.
+: >"$folder/line"
+"$program" serve --root "$folder/F" --listen 127.0.0.1:0 --verbose --connections 2 >"$folder/line" 2>/dev/full &
+server=$!
+says_port "$server" "$folder/line" && url=http://127.0.0.1:$port || fail 'with a full standard error the service does not start'
+send 'no HTTP at all\r\n\r\n'
+asks 'a request whose line is refused' 200 "$reply_a $t0" -H "$web" --data-binary "@$folder/request" "$url$v1"
+ends_by_itself
+
+# Clients whose time is over: one that sends nothing, and one that does not take its answer.
+start --root "$folder/many" --verbose --client-seconds 2 --connections 2
+hold 1
+timeout 10 cat <&"${held[0]}" >/dev/null
+let_go
+exec 3<>"/dev/tcp/127.0.0.1/$port"
+{
+    printf 'POST %s HTTP/1.1\r\nhost: h\r\n%s\r\ncontent-length: %s\r\n\r\n' "$v1" "$web" "$(wc -c <"$folder/all")"
+    cat "$folder/all"
+} >&3
+"$program" answer --root "$folder/many" <"$folder/all" >"$folder/whole"
+logged 'connection ended without a request: the time of its client was over' \
+    "POST $v1 200 grpc-status 0, $(wc -c <"$folder/all") bytes, 2000 requests, $(wc -c <"$folder/whole") bytes, T ms" \
+    'connection ended before its answer was taken: the time of its client was over'
+exec 3>&-
+
 # ends STATUS LINE WORDS..: how the service with these words ends.
 ends() {
     local status=$1 line=$2 got
@@ -131,6 +275,8 @@ stop
 ends 3 'device: listen' --root "$folder/F" --listen localhost
 ends 3 'device: folder' --root "$folder/none" --listen localhost
 ends 2 '--listen' --root "$folder/F"
+ends 2 '--clients' --root "$folder/F" --listen 127.0.0.1:0 --clients 1025
+ends 2 '--client-seconds' --root "$folder/F" --listen 127.0.0.1:0 --client-seconds 0
 ends 2 '--connections' --root "$folder/F" --listen 127.0.0.1:0 --connections many
 printf 'syntax = "proto2";' >"$folder/F/a.proto"
 ends 1 'a.proto:1:10: ' --root "$folder/F" --listen localhost

@@ -13,9 +13,12 @@ import sys
 import urllib.error
 import urllib.request
 
-from google.protobuf import descriptor_pb2, descriptor_pool, json_format, message_factory
+try:
+    from google.protobuf import descriptor_pb2, descriptor_pool, json_format, message_factory
 
-import reflection_pb2 as reflection
+    import reflection_pb2 as reflection
+except ImportError as error:
+    sys.exit(f"{error}; {__doc__.splitlines()[-2]} {__doc__.splitlines()[-1]}")
 
 PATH = "/grpc.reflection.v1.ServerReflection/ServerReflectionInfo"
 

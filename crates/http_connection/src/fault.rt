@@ -4,8 +4,9 @@ use std::alloc::AllocError;
 use thiserror::Error;
 
 /// Why a connection got no answer. It ends, and the next one is served.
-#[derive(Debug, Drop, Error)]
-pub(crate) enum ConnectionFault {
+#[derive(Clone, Copy, Debug, Error)]
+pub enum ConnectionFault {
+    /// The body of the request broke off.
     #[error("the body broke off")]
     Body,
     #[error("out of memory")]

@@ -47,13 +47,13 @@ pub placed_text : {T E : Type 0} (bytes : T → List ℕ) (limits : Limits) (pla
     (f : Fault) (s : Source) (e : Excerpt) (r : Result T E)
     → IsExcerpt (limit_of limits FileBytes) (text_of s) f.place.offset e → folder ≡ folder_in places file
     → slash ≡ slash_behind folder → file ≡ string_bytes f.file
-    → IfOk r (λ t. bytes t ≡ place_text folder slash (shown_name file) f.kind e)
+    → IfOk r (λ t. bytes t ≡ place_text (shown_name folder) slash (shown_name file) f.kind e)
     → IfOk r (λ t. IsPlaceOf limits places f s (bytes t))
 placed_text bytes limits places folder slash file f s e (Ok t) is within behind named said =
-    let P : List ℕ → Type 0 = λ x. bytes t ≡ place_text folder x (shown_name file) f.kind e in
-    let Q : List ℕ → Type 0 = λ x. bytes t ≡ place_text x (slash_behind x) (shown_name file) f.kind e in
+    let P : List ℕ → Type 0 = λ x. bytes t ≡ place_text (shown_name folder) x (shown_name file) f.kind e in
+    let Q : List ℕ → Type 0 = λ x. bytes t ≡ place_text (shown_name x) (slash_behind x) (shown_name file) f.kind e in
     let R : List ℕ → Type 0 = λ x. bytes t
-    ≡ place_text (folder_in places x) (slash_behind (folder_in places x)) (shown_name x) f.kind e in
+    ≡ place_text (shown_name (folder_in places x)) (slash_behind (folder_in places x)) (shown_name x) f.kind e in
     (e, is, subst R named (subst Q within (subst P behind said)))
 placed_text bytes limits places folder slash file f s e (Err x) is within behind named said = tt
 

@@ -1,4 +1,6 @@
 pub mod Added
 pub mod Reports
 pub mod Runs
+pub mod Texts
 pub mod Told
+pub mod Written

@@ -32,14 +32,14 @@ place_text root slash file kind e = root ++ (slash ++ (file ++ (codes ":" ++ (de
 abbrev pub IsPlaceOf : Limits → Places → Fault → Source → List ℕ → Type 0
 IsPlaceOf limits places f s said = let folder = folder_in places (string_bytes f.file) in
     (e : Excerpt) × IsExcerpt (limit_of limits FileBytes) (text_of s) f.place.offset e
-    × (said ≡ place_text folder (slash_behind folder) (shown_name (string_bytes f.file)) f.kind e)
+    × (said ≡ place_text (shown_name folder) (slash_behind folder) (shown_name (string_bytes f.file)) f.kind e)
 
 -- of a fault of the whole list ROOT: KIND
 abbrev pub list_text : List ℕ → Kind → List ℕ
 list_text root kind = root ++ (codes ": " ++ (name_of kind ++ 10 ∷ []))
 
 abbrev pub IsHeadOf : Limits → Places → Fault → Option Source → List ℕ → Type 0
-IsHeadOf limits places f None said = said ≡ list_text places.root.now f.kind
+IsHeadOf limits places f None said = said ≡ list_text (shown_name places.root.now) f.kind
 IsHeadOf limits places f (Some s) said = IsPlaceOf limits places f s said
 
 -- so much, and then what it means and how it is cured
@@ -61,9 +61,13 @@ abbrev pub faulty_text : (faults : ℕ) → (more_faults : List ℕ) → (files 
 faulty_text faults more_faults files more_files = decimal faults ++ (codes " fault" ++ (more_faults
     ++ (codes " in " ++ (decimal files ++ (codes " file" ++ (more_files ++ 10 ∷ []))))))
 
+-- no file that ends in .proto below ROOT
+abbrev pub empty_text : List ℕ → List ℕ
+empty_text root = codes "no file that ends in .proto below " ++ (root ++ 10 ∷ [])
+
 -- how many faults there are, in how many files
 abbrev pub summary_of : List ℕ → ℕ → ℕ → List ℕ
-summary_of root zero zero = codes "no file that ends in .proto below " ++ (root ++ 10 ∷ [])
+summary_of root zero zero = empty_text (shown_name root)
 summary_of root zero (suc files) = sound_text (suc files) (plural (suc files))
 summary_of root (suc faults) files = faulty_text (suc faults) (plural (suc faults)) files (plural files)
 

@@ -9,8 +9,7 @@ use Rattle.proto_compile.specs.FaultSet.{IsLeastFault, IsPlaced, told_by}
 use Rattle.proto_compile.specs.Sources.{name_of, text_of}
 use Rattle.proto_compile.specs.declared.source.Source.{Source}
 
--- none, where the sources are compiled; else, where the least of all faults is a source's own, the first own one of
--- each
+-- none, where the sources are compiled; else, where the least of all faults is a source's own, the first own one of each
 -- source; else the least alone
 abbrev pub AreTold : Limits → List Source → List Fault → Type 0
 AreTold limits sources [] = (c : Compilation) × IsCompiled limits sources c

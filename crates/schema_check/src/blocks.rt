@@ -39,8 +39,9 @@ fn place_text(
     excerpt: &Excerpt,
 ) -> Result<String, AllocError>
     ensures { IfOk result (λ text. string_bytes text
-        ≡ place_text root.now slash.now (shown_name file.now) kind excerpt.now) }
+        ≡ place_text (shown_name root.now) slash.now (shown_name file.now) kind excerpt.now) }
 {
+    let root = Shown(root);
     let file = Shown(file);
     let line = excerpt.number;
     let column = excerpt.column;
@@ -49,8 +50,9 @@ fn place_text(
 
 /// The line of a fault of the whole list.
 fn list_text(alloc: Global, root: &str, kind: Kind) -> Result<String, AllocError>
-    ensures { IfOk result (λ text. string_bytes text ≡ list_text root.now kind) }
+    ensures { IfOk result (λ text. string_bytes text ≡ list_text (shown_name root.now) kind) }
 {
+    let root = Shown(root);
     format!(in alloc; "{root}: {kind}\n")
 }
 

@@ -1,10 +1,12 @@
 //! Checking the sources of a folder.
 
 ghost use Rattle.std.specs.Prelude.{◌≡◌, ◌-◌, ◌<◌, ◌^◌, IfOk, string_bytes};
-ghost use Rattle.schema_check.specs.Runs.{AreFindings, IsCheckRun, IsFolderCheck, verdict_of};
+ghost use Rattle.schema_check.specs.Runs.{AreFindings, IsCheckRun, IsFolderCheck, IsShownReport, verdict_of};
+ghost use Rattle.schema_check.specs.Told.{ArePlaced};
 
 use crate::report::report_of;
 use crate::told::told_faults;
+use crate::written::shown_texts;
 use counted_io::{CountedWrite, write_bytes};
 use proto_base::{Fault, Limits};
 use proto_compile::Source;
@@ -12,6 +14,7 @@ use schema_compile::sources_of;
 use schema_failure::{Failure, Verdict};
 use schema_sources::{Places, SourceFolder, read_sources};
 use share_work::Plan;
+use skipped_sources::CustomOptions;
 use source_folder::NamedText;
 use std::alloc::{AllocError, AllocGlobal};
 use std::thread::Threads;
@@ -27,6 +30,34 @@ fn verdict_of(faults: &[Fault]) -> Verdict
     }
 }
 
+/// The report on faults of sources that lie so. Where custom options were skipped, the rows of a text are those of its file as it is
+/// written.
+fn shown_report<R, F>(
+    rt: &R,
+    folder: &F,
+    places: &Places,
+    sources: &[Source],
+    faults: &[Fault],
+    limits: &Limits,
+) -> Result<String, AllocError>
+where
+    R: AllocGlobal,
+    F: SourceFolder,
+    requires { ArePlaced sources.now faults.now }
+    ensures { IfOk result (λ report. IsShownReport (F.sources folder.now).custom_options limits.now places.now
+        sources.now faults.now (string_bytes report)) }
+{
+    let alloc = rt.alloc();
+    match folder.custom_options() {
+        CustomOptions::Refuse => report_of(alloc, places, sources, faults, limits),
+        CustomOptions::Skip => {
+            let texts = shown_texts(alloc, folder, sources, faults, limits)?;
+            let shown = sources_of(alloc, &texts)?;
+            report_of(alloc, places, &shown, faults, limits)
+        }
+    }
+}
+
 /// What was found of sources, and what is said of it.
 #[derive(Drop)]
 struct Findings {
@@ -34,9 +65,10 @@ struct Findings {
     report: String,
 }
 
-/// What is found of sources that lie so.
-fn findings_of<R>(
+/// What is found of sources of a folder that lie so.
+fn findings_of<R, F>(
     rt: &R,
+    folder: &F,
     places: &Places,
     sources: &[Source],
     limits: &Limits,
@@ -44,25 +76,27 @@ fn findings_of<R>(
 ) -> Result<Findings, AllocError>
 where
     R: Threads + AllocGlobal + Sync,
-    ensures { IfOk result (λ found. AreFindings limits.now places.now sources.now found.verdict
-        (string_bytes found.report)) }
+    F: SourceFolder,
+    ensures { IfOk result (λ found. AreFindings (F.sources folder.now).custom_options limits.now places.now
+        sources.now found.verdict (string_bytes found.report)) }
 {
     let faults = told_faults(rt, sources, limits, plan)?;
     let faults = faults.as_slice();
     Ok(Findings {
         verdict: verdict_of(faults),
-        report: report_of(rt.alloc(), places, sources, faults, limits)?,
+        report: shown_report(rt, folder, places, sources, faults, limits)?,
     })
 }
 
-/// Writes all faults of read texts that can be told at once: where the first of all is one of a text by itself, the first of each
-/// text that has one, in the order of the texts; else the first of all, alone. For each its line, the rows of its text around the
+/// Writes all faults of a folder's read texts that can be told at once: where the first of all is one of a text by itself, the first of
+/// each text that has one, in the order of the texts; else the first of all, alone. For each its line, the rows of its text around the
 /// place with carets below the token, what it means and its cure; at last how many there are. The answer is `Sound` only where
 /// there is none.
 ///
 /// The report is made before it is written, so `NoMemory` comes before a byte is; `Output` is a writer that failed.
-pub fn check_texts<R, O>(
+pub fn check_texts<R, F, O>(
     rt: &R,
+    folder: &F,
     places: &Places,
     texts: &[NamedText],
     limits: &Limits,
@@ -71,13 +105,15 @@ pub fn check_texts<R, O>(
 ) -> Result<Verdict, Failure>
 where
     R: Threads + AllocGlobal + Sync,
+    F: SourceFolder,
     O: CountedWrite,
     requires { (O.writes output.old).failures < 2 ^ 64 - 1 }
-    ensures { IsCheckRun limits.now places.now texts.now (O.writes output.old) (O.writes output.new)
-        result }
+    ensures { IsCheckRun (F.sources folder.now).custom_options limits.now places.now texts.now
+        (O.writes output.old) (O.writes output.new) result }
 {
     let sources = sources_of(rt.alloc(), texts)?;
-    let found = findings_of(rt, places, &sources, limits, plan.evened(texts.len()))?;
+    let plan = plan.evened(texts.len());
+    let found = findings_of(rt, folder, places, &sources, limits, plan)?;
     write_bytes(output, found.report.as_bytes())?;
     Ok(found.verdict)
 }
@@ -105,5 +141,5 @@ where
         root,
         elsewhere: &elsewhere,
     };
-    check_texts(rt, &places, &texts, &limits, plan, output)
+    check_texts(rt, folder, &places, &texts, &limits, plan, output)
 }

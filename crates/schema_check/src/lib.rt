@@ -5,6 +5,7 @@ mod blocks;
 mod check;
 mod report;
 mod told;
+mod written;
 
 pub use check::{check_texts, run_check};
 pub use report::report_of;

@@ -1,12 +1,14 @@
 //! What is said of all faults.
 
 ghost use Rattle.std.specs.Prelude.{◌≡◌, IfOk, string_bytes};
-ghost use Rattle.schema_check.specs.Reports.{IsReport, faulty_text, plural, sound_text, summary_of};
+ghost use Rattle.schema_check.specs.Reports.{IsReport, empty_text, faulty_text, plural, sound_text, summary_of};
 ghost use Rattle.schema_check.specs.Told.{ArePlaced};
+ghost use Rattle.schema_failure.specs.Lines.{shown_name};
 
 use crate::blocks::put_block;
 use proto_base::{Fault, Limits};
 use proto_compile::Source;
+use schema_failure::Shown;
 use schema_sources::Places;
 use std::alloc::{AllocError, Global};
 
@@ -15,6 +17,14 @@ fn plural(count: usize) -> &'static str
     ensures { result.now ≡ plural count }
 {
     if count == 1 { "" } else { "s" }
+}
+
+/// The only line of a report on no sources.
+fn empty_text(alloc: Global, root: &str) -> Result<String, AllocError>
+    ensures { IfOk result (λ line. string_bytes line ≡ empty_text (shown_name root.now)) }
+{
+    let root = Shown(root);
+    format!(in alloc; "no file that ends in .proto below {root}\n")
 }
 
 /// The last line of a report on sources without a fault.
@@ -43,7 +53,7 @@ fn summary_of(alloc: Global, root: &str, faults: usize, files: usize) -> Result<
     ensures { IfOk result (λ line. string_bytes line ≡ summary_of root.now faults files) }
 {
     match (faults, files) {
-        (0, 0) => format!(in alloc; "no file that ends in .proto below {root}\n"),
+        (0, 0) => empty_text(alloc, root),
         (0, _) => sound_text(alloc, files, plural(files)),
         _ => faulty_text(alloc, faults, plural(faults), files, plural(files)),
     }

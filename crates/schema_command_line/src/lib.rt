@@ -4,4 +4,4 @@
 mod task;
 mod words;
 
-pub use task::{Selection, Task, task_of};
+pub use task::{Asked, Origin, Selection, Service, Task, Verbosity, asked_of};

@@ -3,7 +3,7 @@
 ghost use Rattle.std.specs.Prelude.{◌≡◌, IfOk, IfSome, codes, map, option_map};
 ghost use Rattle.clap.specs.Matches.{first_value, found_of};
 ghost use Rattle.clap.specs.declared.parser.matches.ArgMatches.{ArgMatches};
-ghost use Rattle.schema_command_line.specs.Tasks.{AreConnections, IsAsked, IsMode, IsPlan, IsSelection, IsTaskNamed, file_of, values_of};
+ghost use Rattle.schema_command_line.specs.Tasks.{AreCustomOptions, IsAsked, IsCount, IsMode, IsOrigin, IsPlan, IsSelection, IsService, IsTaskNamed, IsVerbosity, file_of, value_of, values_of};
 
 use crate::words::whole_command;
 use clap::error::ErrorKind;
@@ -11,6 +11,7 @@ use clap::{ArgMatches, Error};
 use first_reach::Mode;
 use schema_explanation::Topic;
 use share_work::Plan;
+use skipped_sources::CustomOptions;
 use std::alloc::{AllocError, Global};
 
 /// Which sources a run is over.
@@ -22,6 +23,29 @@ pub struct Selection<'a> {
     pub includes: Vec<&'a str>,
     /// The sources that are named; none where all below the root are meant.
     pub files: Vec<&'a str>,
+    pub custom_options: CustomOptions,
+}
+
+/// What a run answers from.
+#[derive(Drop)]
+pub enum Origin<'a> {
+    /// Sources, which are compiled first.
+    Sources(Selection<'a>),
+    /// The `FileDescriptorSet` in a file of this path.
+    Set(&'a str),
+}
+
+/// Where and how connections are served.
+#[derive(Clone, Copy)]
+pub struct Service<'a> {
+    /// The address and the port to listen at.
+    pub listen: &'a str,
+    /// How many connections are served; without a count there is no end.
+    pub connections: Option<u64>,
+    /// How many are served at once.
+    pub clients: u32,
+    /// How many seconds a client may take; without them it may take as long as it likes.
+    pub client_seconds: Option<u32>,
 }
 
 /// What one run is to do.
@@ -39,18 +63,16 @@ pub enum Task<'a> {
         selection: Selection<'a>,
         plan: Plan,
     },
-    /// Serve reflection over sources by HTTP, at an address and a port.
+    /// Serve reflection by HTTP.
     Serve {
-        selection: Selection<'a>,
-        listen: &'a str,
+        origin: Origin<'a>,
+        service: Service<'a>,
         plan: Plan,
         mode: Mode,
-        /// How many connections are served; without a count there is no end.
-        connections: Option<u64>,
     },
-    /// Answer the request body on the input over sources.
+    /// Answer the request body on the input.
     Answer {
-        selection: Selection<'a>,
+        origin: Origin<'a>,
         plan: Plan,
         mode: Mode,
     },
@@ -64,6 +86,32 @@ pub enum Task<'a> {
     },
 }
 
+/// How much a run tells on standard error.
+#[derive(Clone, Copy)]
+pub enum Verbosity {
+    /// The line of its failure, if it fails.
+    Brief,
+    /// What is known beside that line, too, and of a service a line for each request.
+    Verbose,
+}
+
+/// What the words of a run ask for.
+#[derive(Drop)]
+pub struct Asked<'a> {
+    pub task: Task<'a>,
+    pub verbosity: Verbosity,
+}
+
+fn verbosity_of(matches: &ArgMatches<'_>) -> Verbosity
+    ensures { IsVerbosity (found_of matches.now) result }
+{
+    if matches.get_flag("verbose") {
+        Verbosity::Verbose
+    } else {
+        Verbosity::Brief
+    }
+}
+
 fn mode_of(matches: &ArgMatches<'_>) -> Mode
     ensures { IsMode (found_of matches.now) result }
 {
@@ -71,6 +119,16 @@ fn mode_of(matches: &ArgMatches<'_>) -> Mode
         Mode::Repeat
     } else {
         Mode::Once
+    }
+}
+
+fn custom_options_of(matches: &ArgMatches<'_>) -> CustomOptions
+    ensures { AreCustomOptions (found_of matches.now) result }
+{
+    if matches.get_flag("skip-custom-options") {
+        CustomOptions::Skip
+    } else {
+        CustomOptions::Refuse
     }
 }
 
@@ -105,7 +163,18 @@ fn selection_of<'a>(alloc: Global, matches: &ArgMatches<'a>) -> Result<Selection
         root: matches.get_str("root").unwrap_or(""),
         includes: values_of(alloc, matches, "include")?,
         files: values_of(alloc, matches, "files")?,
+        custom_options: custom_options_of(matches),
     })
+}
+
+/// What is answered from: a set, if the words have one, or sources.
+fn origin_of<'a>(alloc: Global, matches: &ArgMatches<'a>) -> Result<Origin<'a>, AllocError>
+    ensures { IfOk result (IsOrigin (found_of matches.now)) }
+{
+    match matches.get_str("set") {
+        Some(set) => Ok(Origin::Set(set)),
+        None => Ok(Origin::Sources(selection_of(alloc, matches)?)),
+    }
 }
 
 /// A mistake in the words, as `clap` tells it.
@@ -148,10 +217,37 @@ fn file_in<'a>(matches: &ArgMatches<'a>) -> Option<&'a str>
     }
 }
 
+/// How many connections are asked for, if they are counted.
 fn connections_in(matches: &ArgMatches<'_>) -> Option<u64>
-    ensures { AreConnections (found_of matches.now) result }
+    ensures { IsCount (found_of matches.now) (codes "connections") 64 result }
 {
     matches.get_one::<u64>("connections")
+}
+
+/// How many seconds a client has, if they are limited.
+fn client_seconds_in(matches: &ArgMatches<'_>) -> Option<u32>
+    ensures { IsCount (found_of matches.now) (codes "client-seconds") 32 result }
+{
+    matches.get_one::<u32>("client-seconds")
+}
+
+/// The address and the port to listen at.
+fn listen_in<'a>(matches: &ArgMatches<'a>) -> &'a str
+    ensures { result.now ≡ value_of (found_of matches.now) (codes "listen") }
+{
+    matches.get_str("listen").unwrap_or("")
+}
+
+/// Where and how the words ask to serve.
+fn service_of<'a>(matches: &ArgMatches<'a>) -> Service<'a>
+    ensures { IsService (found_of matches.now) result }
+{
+    Service {
+        listen: listen_in(matches),
+        connections: connections_in(matches),
+        clients: matches.get_one::<u32>("clients").unwrap_or(1),
+        client_seconds: client_seconds_in(matches),
+    }
 }
 
 /// The task of a command, by its name and what was found in the words behind it.
@@ -173,14 +269,13 @@ fn task_named<'a>(
             plan: plan_of(matches),
         },
         "serve" => Task::Serve {
-            selection: selection_of(alloc, matches)?,
-            listen: matches.get_str("listen").unwrap_or(""),
+            origin: origin_of(alloc, matches)?,
+            service: service_of(matches),
             plan: plan_of(matches),
             mode: mode_of(matches),
-            connections: connections_in(matches),
         },
         "answer" => Task::Answer {
-            selection: selection_of(alloc, matches)?,
+            origin: origin_of(alloc, matches)?,
             plan: plan_of(matches),
             mode: mode_of(matches),
         },
@@ -195,14 +290,18 @@ fn task_named<'a>(
     Ok(Some(task))
 }
 
-/// The task that was found in the words, if they name a command.
-fn task_in<'a>(alloc: Global, matches: &ArgMatches<'a>) -> Result<Option<Task<'a>>, Error>
-    ensures { IfOk result (λ task. IfSome task (IsAsked matches.now)) }
+/// What was found in the words, if they name a command.
+fn asked_in<'a>(alloc: Global, matches: &ArgMatches<'a>) -> Result<Option<Asked<'a>>, Error>
+    ensures { IfOk result (λ asked. IfSome asked (IsAsked matches.now)) }
 {
-    match matches.subcommand() {
-        Some((name, found)) => task_named(alloc, name, found),
-        None => Ok(None),
-    }
+    let Some((name, found)) = matches.subcommand() else {
+        return Ok(None);
+    };
+    let Some(task) = task_named(alloc, name, found)? else {
+        return Ok(None);
+    };
+    let verbosity = verbosity_of(found);
+    Ok(Some(Asked { task, verbosity }))
 }
 
 /// What `clap` finds in the words.
@@ -211,13 +310,13 @@ fn matches_of<'a>(alloc: Global, words: &'a [&'a str]) -> Result<ArgMatches<'a>,
     command.try_get_matches_from_mut(words)
 }
 
-/// The task that the words give, whose first is the program's name, or `clap`'s text for the user.
-pub fn task_of<'a>(alloc: Global, words: &'a [&'a str]) -> Result<Task<'a>, Error>
-    ensures { IfOk result (λ task. (matches : ArgMatches) × IsAsked matches task) }
+/// What the words ask for, whose first is the program's name, or `clap`'s text for the user.
+pub fn asked_of<'a>(alloc: Global, words: &'a [&'a str]) -> Result<Asked<'a>, Error>
+    ensures { IfOk result (λ asked. (matches : ArgMatches) × IsAsked matches asked) }
 {
     let matches = matches_of(alloc, words)?;
-    match task_in(alloc, &matches)? {
-        Some(task) => Ok(task),
+    match asked_in(alloc, &matches)? {
+        Some(asked) => Ok(asked),
         None => Err(mistake(alloc, ErrorKind::MissingSubcommand, "no command was given")?),
     }
 }

@@ -4,7 +4,7 @@ use clap::{Arg, ArgAction, Command, value_parser};
 use std::alloc::{AllocError, Global};
 
 /// The version that `--version` prints: the program's, and the logic in which it is proved, which several kits have.
-static VERSION: &str = "1.1.0, logic dac8208d650f15bf";
+static VERSION: &str = "1.2.0, logic dac8208d650f15bf";
 
 /// What `--help` says last.
 static STATUSES: &str =
@@ -21,6 +21,23 @@ fn root_argument<'a>(alloc: Global) -> Arg<'a> {
         )
 }
 
+/// The root of a command that takes a set in its place.
+fn root_or_set_argument<'a>(alloc: Global) -> Result<Arg<'a>, AllocError> {
+    root_argument(alloc)
+        .required(false)
+        .required_unless_present("set")
+}
+
+fn set_argument<'a>(alloc: Global) -> Result<Arg<'a>, AllocError> {
+    let set = Arg::new(alloc, "set").long("set").value_name("FILE").help(
+        "in place of sources, the files of this FileDescriptorSet, as protoc --include_imports or buf build write it",
+    );
+    set.conflicts_with("root")?
+        .conflicts_with("include")?
+        .conflicts_with("skip-custom-options")?
+        .conflicts_with("files")
+}
+
 fn include_argument<'a>(alloc: Global) -> Arg<'a> {
     Arg::new(alloc, "include")
         .long("include")
@@ -28,6 +45,15 @@ fn include_argument<'a>(alloc: Global) -> Arg<'a> {
         .action(ArgAction::Append)
         .help(
             "a folder in which an import is looked for that the root doesn't have; any number of times",
+        )
+}
+
+fn skip_argument<'a>(alloc: Global) -> Arg<'a> {
+    Arg::new(alloc, "skip-custom-options")
+        .long("skip-custom-options")
+        .action(ArgAction::SetTrue)
+        .help(
+            "take sources as if custom options, extensions and imports of what is not there were not in them",
         )
 }
 
@@ -64,23 +90,52 @@ fn with_argument<'a>(
     command?.arg(argument)
 }
 
-/// A command over sources, with the arguments that say which, and by how many workers.
+fn verbose_argument<'a>(alloc: Global) -> Arg<'a> {
+    Arg::new(alloc, "verbose")
+        .long("verbose")
+        .action(ArgAction::SetTrue)
+        .help(
+            "tell on standard error what is known beside the line of a failure; serve has a line for each request, too",
+        )
+}
+
+/// A command over sources, with the arguments that say which, of which this is the root, and by how many workers.
+fn command_with_root<'a>(
+    alloc: Global,
+    name: &'a str,
+    about: &'a str,
+    root: Arg<'a>,
+) -> Result<Command<'a>, AllocError> {
+    let workers_help = "how many workers share the work, 1 to 64";
+    let cut_help = "the most files that a worker takes at a time, 1 to 4096";
+    let command = Command::new(alloc, name).about(about).arg(root);
+    let command = with_argument(command, include_argument(alloc));
+    let command = with_argument(command, skip_argument(alloc));
+    let workers = count_argument(alloc, "workers", 64, "4", workers_help);
+    let command = with_argument(command, workers);
+    let cut = count_argument(alloc, "cut", 4096, "16", cut_help);
+    let command = with_argument(command, cut);
+    let command = with_argument(command, verbose_argument(alloc));
+    with_argument(command, files_argument(alloc))
+}
+
+/// A command over sources.
 fn source_command<'a>(
     alloc: Global,
     name: &'a str,
     about: &'a str,
 ) -> Result<Command<'a>, AllocError> {
-    let workers_help = "how many workers share the work, 1 to 64";
-    let cut_help = "the most files that a worker takes at a time, 1 to 4096";
-    let command = Command::new(alloc, name)
-        .about(about)
-        .arg(root_argument(alloc));
-    let command = with_argument(command, include_argument(alloc));
-    let workers = count_argument(alloc, "workers", 64, "4", workers_help);
-    let command = with_argument(command, workers);
-    let cut = count_argument(alloc, "cut", 4096, "16", cut_help);
-    let command = with_argument(command, cut);
-    with_argument(command, files_argument(alloc))
+    command_with_root(alloc, name, about, root_argument(alloc))
+}
+
+/// A command over sources, or over a set.
+fn answering_command<'a>(
+    alloc: Global,
+    name: &'a str,
+    about: &'a str,
+) -> Result<Command<'a>, AllocError> {
+    let command = command_with_root(alloc, name, about, root_or_set_argument(alloc)?);
+    with_argument(command, set_argument(alloc)?)
 }
 
 fn output_argument<'a>(alloc: Global) -> Arg<'a> {
@@ -115,7 +170,7 @@ fn answer_command<'a>(alloc: Global) -> Result<Command<'a>, AllocError> {
     let about =
         "Reads the request body of a gRPC-Web reflection stream from standard input and writes the response body";
     with_argument(
-        source_command(alloc, "answer", about),
+        answering_command(alloc, "answer", about),
         repeat_argument(alloc),
     )
 }
@@ -136,11 +191,28 @@ fn connections_argument<'a>(alloc: Global) -> Arg<'a> {
         .help("end after so many connections; without it the service goes on")
 }
 
+fn clients_argument<'a>(alloc: Global) -> Arg<'a> {
+    let help = "how many clients are served at once, 1 to 1024";
+    count_argument(alloc, "clients", 1024, "1", help)
+}
+
+fn client_seconds_argument<'a>(alloc: Global) -> Arg<'a> {
+    Arg::new(alloc, "client-seconds")
+        .long("client-seconds")
+        .value_name("N")
+        .value_parser(value_parser!(u32).range(1..=1_000_000))
+        .help(
+            "end a connection so many seconds after it was accepted, if its client has not sent a request or taken the answer by then",
+        )
+}
+
 fn serve_command<'a>(alloc: Global) -> Result<Command<'a>, AllocError> {
-    let about = "Serves gRPC reflection as gRPC-Web over HTTP/1.1, one connection after the other";
-    let command = source_command(alloc, "serve", about);
+    let about = "Serves gRPC reflection as gRPC-Web over HTTP/1.1";
+    let command = answering_command(alloc, "serve", about);
     let command = with_argument(command, listen_argument(alloc));
     let command = with_argument(command, connections_argument(alloc));
+    let command = with_argument(command, clients_argument(alloc));
+    let command = with_argument(command, client_seconds_argument(alloc));
     with_argument(command, repeat_argument(alloc))
 }
 
@@ -153,7 +225,8 @@ fn describe_command<'a>(alloc: Global) -> Result<Command<'a>, AllocError> {
         .about(
             "Reads one proto3 source from standard input and prints its FileDescriptorProto in hexadecimal digits",
         )
-        .arg(name)
+        .arg(name)?
+        .arg(verbose_argument(alloc))
 }
 
 fn explain_command<'a>(alloc: Global) -> Result<Command<'a>, AllocError> {
@@ -167,7 +240,8 @@ fn explain_command<'a>(alloc: Global) -> Result<Command<'a>, AllocError> {
         .about(
             "Prints what a fault or another line means, the smallest source that has it, and its cure",
         )
-        .arg(words)
+        .arg(words)?
+        .arg(verbose_argument(alloc))
 }
 
 /// The command with one of its own commands, if there was memory for both.

@@ -14,12 +14,14 @@ use Rattle.proto_compile.specs.Sources.{name_of, text_of}
 use Rattle.proto_compile.specs.declared.source.Source.{Source}
 use Rattle.schema_compile.specs.Compiled.{IsCompiledTo}
 use Rattle.schema_compile.specs.Told.{IsToldOf, IsToldOfFolder}
-use Rattle.schema_failure.specs.Faults.{of_exchange}
+use Rattle.schema_failure.specs.Faults.{IsOfDevice, of_exchange}
+use Rattle.schema_failure.specs.declared.failure.Device.TheVariants as device
 use Rattle.schema_failure.specs.declared.failure.Failure.{Failure}
 use Rattle.schema_failure.specs.declared.failure.Failure.TheVariants as failure
 use Rattle.schema_headline.specs.Describe.{IsDescribedBy}
 use Rattle.schema_headline.specs.Headline.{IsSetOf}
 use Rattle.schema_compile.specs.Sources.{AreSourcesOf}
+use Rattle.schema_set.specs.Sets.{IsOfSomeSet, IsToldOfSet}
 use Rattle.schema_sources.specs.Texts.{AreStandard, AreTextsOf, KnownSources}
 use Rattle.source_folder.specs.declared.folder.NamedText.{NamedText}
 
@@ -45,11 +47,11 @@ IsDescribeRun name reads reads' writes writes' (Ok a) =
 IsDescribeRun name reads reads' writes writes' (Err (failure.Source file line column kind)) =
     (limits : Limits) × (source : Source) × IsInput name reads reads' limits source
     × IsToldOf limits (source ∷ []) (failure.Source file line column kind) × (writes' ≡ writes)
-IsDescribeRun name reads reads' writes writes' (Err failure.Input) =
+IsDescribeRun name reads reads' writes writes' (Err (failure.Device device.Input error)) =
     (reads'.failures ≡ suc reads.failures) × (writes' ≡ writes)
 IsDescribeRun name reads reads' writes writes' (Err failure.NoMemory) =
     (reads'.failures ≡ reads.failures) × (writes' ≡ writes)
-IsDescribeRun name reads reads' writes writes' (Err failure.Output) =
+IsDescribeRun name reads reads' writes writes' (Err (failure.Device device.Output error)) =
     (limits : Limits) × (source : Source) × IsInput name reads reads' limits source
     × (line : List ℕ) × IsLineOf limits source line × (written : ℕ) × IsWrittenInPart writes writes' line written
 IsDescribeRun name reads reads' writes writes' (Err other) = ⊥
@@ -61,40 +63,53 @@ IsSetOfTexts limits texts set = (sources : List Source) × AreSourcesOf texts so
 abbrev pub IsOutput : {B : Type 0} → Writes → Writes → List ℕ → Result B Failure → Type 0
 IsOutput writes writes' bytes (Ok b) = IsWritten writes writes' bytes
 IsOutput writes writes' bytes (Err f) =
-    (f ≡ failure.Output) × (written : ℕ) × IsWrittenInPart writes writes' bytes written
+    IsOfDevice device.Output f × (written : ℕ) × IsWrittenInPart writes writes' bytes written
 
 -- how a set was written: to the writer; or to the file that is named, which may be where the writer writes
 abbrev pub IsSetRun : {A B : Type 0} → Option A → Writes → Writes → List ℕ → Result B Failure → Type 0
 IsSetRun None writes writes' set done = IsOutput writes writes' set done
 IsSetRun (Some file) writes writes' set (Ok b) = (writes' ≡ writes) ⊎ IsWritten writes writes' set
 IsSetRun (Some file) writes writes' set (Err f) =
-    (((f ≡ failure.Output) ⊎ (f ≡ failure.NoMemory)) × (writes' ≡ writes))
-    ⊎ ((f ≡ failure.Output) × (written : ℕ) × IsWrittenInPart writes writes' set written)
+    ((IsOfDevice device.Output f ⊎ (f ≡ failure.NoMemory)) × (writes' ≡ writes))
+    ⊎ (IsOfDevice device.Output f × (written : ℕ) × IsWrittenInPart writes writes' set written)
 
 -- `compile`: the set of the folder's texts is written; or their first fault is told, and nothing written
 abbrev pub IsCompileRun : {A B : Type 0} → KnownSources → Option A → Writes → Writes → Result B Failure → Type 0
 IsCompileRun known file writes writes' done =
     (limits : Limits) × AreStandard limits
     × (IsErrAnd done (λ f. IsToldOfFolder limits known f × (writes' ≡ writes))
-    ⊎ ((texts : List NamedText) × AreTextsOf known texts × (set : List ℕ) × IsSetOfTexts limits texts set
+    ⊎ ((texts : List NamedText) × AreTextsOf limits known texts × (set : List ℕ) × IsSetOfTexts limits texts set
     × IsSetRun file writes writes' set done))
 
--- `answer`: the exchange over what the folder's texts are compiled to; or their first fault, and nothing read or
+-- the exchange over a compilation, by how the command ended
+abbrev pub IsExchanged : {A : Type 0} → Mode → Compilation → Reads → Reads → Writes → Writes → Result A Failure → Type 0
+IsExchanged mode c reads reads' writes writes' (Ok a) =
+    IsExchange {A = Unit {0}} mode c reads reads' writes writes' (Ok tt)
+IsExchanged mode c reads reads' writes writes' (Err f) =
+    (fault : IoFault) × (f ≡ of_exchange fault)
+    × IsExchange {A = Unit {0}} mode c reads reads' writes writes' (Err fault)
+
+-- `answer` over a compilation of which this is so: the exchange; or it is told why there is none, and nothing is read or
 -- written
+abbrev pub IsAnswerOver : {A : Type 0} → (Limits → Compilation → Type 0) → (Limits → Failure → Type 0) → Mode → Reads
+    → Reads → Writes → Writes → Result A Failure → Type 0
+IsAnswerOver IsMade IsTold mode reads reads' writes writes' done =
+    (limits : Limits) × AreStandard limits
+    × (IsErrAnd done (λ f. IsTold limits f × (reads' ≡ reads) × (writes' ≡ writes))
+    ⊎ ((c : Compilation) × IsMade limits c × IsExchanged mode c reads reads' writes writes' done))
+
+-- over what the folder's texts are compiled to, or their first fault
 abbrev pub IsAnswerRun : {A : Type 0} → KnownSources → Mode → Reads → Reads → Writes → Writes → Result A Failure
     → Type 0
-IsAnswerRun known mode reads reads' writes writes' (Ok a) =
-    (limits : Limits) × AreStandard limits × (c : Compilation) × IsCompiledTo limits known c
-    × IsExchange {A = Unit {0}} mode c reads reads' writes writes' (Ok tt)
-IsAnswerRun known mode reads reads' writes writes' (Err f) =
-    (limits : Limits) × AreStandard limits
-    × ((IsToldOfFolder limits known f × (reads' ≡ reads) × (writes' ≡ writes))
-    ⊎ ((c : Compilation) × IsCompiledTo limits known c × (fault : IoFault) × (f ≡ of_exchange fault)
-    × IsExchange {A = Unit {0}} mode c reads reads' writes writes' (Err fault)))
+IsAnswerRun known = IsAnswerOver (λ limits c. IsCompiledTo limits known c) (λ limits f. IsToldOfFolder limits known f)
+
+-- over what the set at a path says, or its first fault
+abbrev pub IsSetAnswerRun : {A : Type 0} → List ℕ → Mode → Reads → Reads → Writes → Writes → Result A Failure → Type 0
+IsSetAnswerRun path = IsAnswerOver IsOfSomeSet (λ limits f. IsToldOfSet limits path f)
 
 -- `explain`: some text is written whole, and no call fails; or one does; or memory was short, and nothing is written
 abbrev pub IsExplainRun : {A : Type 0} → Writes → Writes → Result A Failure → Type 0
 IsExplainRun writes writes' (Ok a) = (text : List ℕ) × IsWritten writes writes' text
 IsExplainRun writes writes' (Err f) =
     ((f ≡ failure.NoMemory) × (writes' ≡ writes))
-    ⊎ ((f ≡ failure.Output) × (text : List ℕ) × (written : ℕ) × IsWrittenInPart writes writes' text written)
+    ⊎ (IsOfDevice device.Output f × (text : List ℕ) × (written : ℕ) × IsWrittenInPart writes writes' text written)

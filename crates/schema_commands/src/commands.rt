@@ -2,7 +2,7 @@
 
 ghost use Rattle.std.specs.Prelude.{◌-◌, ◌<◌, ◌^◌, [], ◌∷◌, IfErr, IfOk, string_bytes};
 ghost use Rattle.proto_compilation.specs.Compilation.{set_of};
-ghost use Rattle.schema_commands.specs.Runs.{IsAnswerRun, IsCompileRun, IsDescribeRun, IsExplainRun, IsLineOf, IsSetRun};
+ghost use Rattle.schema_commands.specs.Runs.{IsAnswerRun, IsCompileRun, IsDescribeRun, IsExchanged, IsExplainRun, IsLineOf, IsSetAnswerRun, IsSetRun};
 ghost use Rattle.schema_compile.specs.Told.{IsToldOf};
 
 use crate::set_writing::{Chunk, SetWriter};
@@ -10,11 +10,13 @@ use crate::whole_file::write_whole;
 use counted_io::{CountedRead, CountedWrite, read_bytes, write_bytes};
 use grpcweb_core::{Mode, answer_io};
 use proto_base::{Limit, Limits};
+use proto_compilation::Compiled;
 use proto_compile::{Leftovers, Source};
 use schema_compile::{compile_folder, compile_texts, told};
 use schema_explanation::{Topic, topics};
 use schema_failure::Failure;
 use schema_headline::describe;
+use schema_set::compiled_set;
 use schema_sources::{SourceFolder, read_sources};
 use share_work::{NoGate, Plan};
 use std::alloc::{AllocError, AllocGlobal, Global};
@@ -116,6 +118,30 @@ where
     written
 }
 
+/// Answers the request body that a reader gives over a compilation.
+fn answer_over<R, I, O>(
+    rt: &R,
+    compiled: Compiled,
+    plan: Plan,
+    mode: Mode,
+    reader: &mut I,
+    writer: &mut O,
+) -> Result<(), Failure>
+where
+    R: Threads + AllocGlobal + Sync,
+    I: CountedRead,
+    O: CountedWrite,
+    requires reader_counts { (I.reads reader.old).failures < 2 ^ 64 - 1 }
+    requires writer_counts { (O.writes writer.old).failures < 2 ^ 64 - 1 }
+    ensures { IsExchanged mode compiled (I.reads reader.old) (I.reads reader.new)
+        (O.writes writer.old) (O.writes writer.new) result }
+{
+    let exchanged = answer_io(rt, &compiled, plan, &NoGate, mode, reader, writer);
+    drop(compiled);
+    exchanged?;
+    Ok(())
+}
+
 /// Answers the request body that a reader gives over the sources of a folder.
 pub fn run_answer<R, F, I, O>(
     rt: &R,
@@ -135,12 +161,30 @@ where
     ensures { IsAnswerRun (F.sources folder.now) mode (I.reads reader.old) (I.reads reader.new)
         (O.writes writer.old) (O.writes writer.new) result }
 {
-    let limits = Limits::standard();
-    let compiled = compile_folder(rt, folder, &limits, plan)?;
-    let exchanged = answer_io(rt, &compiled, plan, &NoGate, mode, reader, writer);
-    drop(compiled);
-    exchanged?;
-    Ok(())
+    let compiled = compile_folder(rt, folder, &Limits::standard(), plan)?;
+    answer_over(rt, compiled, plan, mode, reader, writer)
+}
+
+/// Answers the request body that a reader gives over the files of the set at a path.
+pub fn run_answer_set<R, I, O>(
+    rt: &R,
+    set: &str,
+    plan: Plan,
+    mode: Mode,
+    reader: &mut I,
+    writer: &mut O,
+) -> Result<(), Failure>
+where
+    R: Threads + Files + AllocGlobal + Sync,
+    I: CountedRead,
+    O: CountedWrite,
+    requires reader_counts { (I.reads reader.old).failures < 2 ^ 64 - 1 }
+    requires writer_counts { (O.writes writer.old).failures < 2 ^ 64 - 1 }
+    ensures { IsSetAnswerRun set.now mode (I.reads reader.old) (I.reads reader.new)
+        (O.writes writer.old) (O.writes writer.new) result }
+{
+    let compiled = compiled_set(rt, set, &Limits::standard())?;
+    answer_over(rt, compiled, plan, mode, reader, writer)
 }
 
 /// What `explain` prints: all that is said of a topic, or a line for each topic.

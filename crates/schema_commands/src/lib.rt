@@ -5,4 +5,4 @@ mod commands;
 mod set_writing;
 mod whole_file;
 
-pub use commands::{run_answer, run_compile, run_describe, run_explain};
+pub use commands::{run_answer, run_answer_set, run_compile, run_describe, run_explain};

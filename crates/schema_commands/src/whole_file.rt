@@ -7,7 +7,7 @@ ghost use Rattle.schema_commands.specs.Runs.{IsSetRun};
 
 use crate::set_writing::SetWriter;
 use counted_io::CountedWrite;
-use schema_failure::Failure;
+use schema_failure::{Device, Failure};
 use std::alloc::AllocGlobal;
 use std::fs::{self, File, FileType, Metadata, OpenFile};
 use std::io::{self, ErrorKind, Write};
@@ -278,6 +278,6 @@ where
     };
     match written {
         Ok(()) => Ok(()),
-        Err(error) => Err(Failure::Output.unless_no_memory(&error)),
+        Err(error) => Err(Failure::of_error(Device::Output, error)),
     }
 }

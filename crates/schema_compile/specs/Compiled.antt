@@ -13,4 +13,4 @@ abbrev pub AreCompiledTo : Limits → List NamedText → Compilation → Type 0
 AreCompiledTo limits texts c = (sources : List Source) × AreSourcesOf texts sources × IsCompiled limits sources c
 
 abbrev pub IsCompiledTo : Limits → KnownSources → Compilation → Type 0
-IsCompiledTo limits known c = (texts : List NamedText) × AreTextsOf known texts × AreCompiledTo limits texts c
+IsCompiledTo limits known c = (texts : List NamedText) × AreTextsOf limits known texts × AreCompiledTo limits texts c

@@ -5,6 +5,7 @@ use Rattle.proto_base.specs.declared.limits.Limits.{Limits}
 use Rattle.proto_compile.specs.FaultSet.{IsLeastFault, told_by}
 use Rattle.proto_compile.specs.declared.source.Source.{Source}
 use Rattle.schema_compile.specs.Placed.{located}
+use Rattle.schema_failure.specs.Faults.{IsUnread}
 use Rattle.schema_failure.specs.declared.failure.Failure.{Failure}
 use Rattle.schema_failure.specs.declared.failure.Failure.TheVariants as failure
 use Rattle.schema_compile.specs.Sources.{AreSourcesOf}
@@ -26,5 +27,5 @@ IsToldOfTexts limits texts f =
 
 -- the failure is that the folder could not be read, want of memory, or the first fault of the folder's texts
 abbrev pub IsToldOfFolder : Limits → KnownSources → Failure → Type 0
-IsToldOfFolder limits known f = (f ≡ failure.Folder) ⊎ ((f ≡ failure.NoMemory)
-    ⊎ ((texts : List NamedText) × AreTextsOf known texts × IsToldOfTexts limits texts f))
+IsToldOfFolder limits known f = IsUnread f ⊎ ((f ≡ failure.NoMemory)
+    ⊎ ((texts : List NamedText) × AreTextsOf limits known texts × IsToldOfTexts limits texts f))

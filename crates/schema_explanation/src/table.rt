@@ -4,7 +4,7 @@ use crate::topic::Topic;
 use proto_base::Kind;
 
 /// All topics, in the order of the page.
-pub(crate) static TOPICS: [Topic; 52] = [
+pub(crate) static TOPICS: [Topic; 57] = [
     Topic::Kind(Kind::TooManyFiles),
     Topic::Kind(Kind::FileNameTwice),
     Topic::Kind(Kind::NotUtf8),
@@ -51,7 +51,12 @@ pub(crate) static TOPICS: [Topic; 52] = [
     Topic::Kind(Kind::PackedOnMessage),
     Topic::Kind(Kind::DescriptorTooLong),
     Topic::Kind(Kind::SetTooLong),
+    Topic::MalformedSet,
+    Topic::MalformedFile,
+    Topic::FileWithoutName,
+    Topic::MalformedContents,
     Topic::Folder,
+    Topic::Set,
     Topic::Listen,
     Topic::Input,
     Topic::Output,
@@ -62,7 +67,8 @@ pub(crate) static TOPICS: [Topic; 52] = [
 /// What is said of a topic: its first line says what it means, its last how it is cured.
 pub(crate) fn text_of(topic: Topic) -> &'static str {
     match topic {
-        Topic::Kind(Kind::TooManyFiles) => "There are more than 16,384 files below the root.
+        Topic::Kind(Kind::TooManyFiles) =>
+            "There are more than 16,384 files below the root, or in the set.
 
 Where: no file, and line 1, column 1.
 
@@ -72,11 +78,11 @@ Where: no file, and line 1, column 1.
 
 Cure: Compile a folder further below.",
         Topic::Kind(Kind::FileNameTwice) =>
-            "Two sources have one name. A folder has no two such files: it is met only where sources come from elsewhere.
+            "Two sources have one name, or two files of a set. A folder has no two such files: it is met only where sources come from elsewhere, and where two sets were joined.
 
 Where: the start of the file.
 
-Cure: Give each source a name of its own.",
+Cure: Give each source a name of its own. Make one set of all sources, in place of joining two.",
         Topic::Kind(Kind::NotUtf8) =>
             r#"The file holds bytes that are no UTF-8, at the first byte that belongs to no whole character. Comments and strings count.
 
@@ -180,7 +186,7 @@ Where: the `(`.
 
     a.proto:2:20: CustomOption
 
-Cure: Keep such options in the sources of the tools that read them; they are not written to a descriptor here."#,
+Cure: `--skip-custom-options` compiles the sources as if such options were not there. With them, protoc or buf compile the sources, and `--set` serves what these write."#,
         Topic::Kind(Kind::LeftOut) =>
             r#"A word of proto2 or of editions where it would begin a statement: `extend`, `extensions`, `group`, `required`, `weak`.
 
@@ -191,7 +197,7 @@ Where: that word.
 
     a.proto:2:13: LeftOut
 
-Cure: Leave out `required`, and `weak` after `import`; turn a `group` into a message and a field. `extend` and `extensions` declare custom options and fields of proto2: take them out with what uses them. Files of proto2 are for protoc."#,
+Cure: `--skip-custom-options` compiles the sources as if `extend`, and `weak` after `import`, were not there. Leave out `required`; turn a `group` into a message and a field. `extensions` is of proto2, whose files are for protoc; `--set` serves what it writes."#,
         Topic::Kind(Kind::TooDeep) => r#"Messages stand in one another more than 64 deep.
 
 Where: the first token too deep.
@@ -250,7 +256,7 @@ Where: the first token of the option's name.
 
     a.proto:2:8: UnknownOption
 
-Cure: Look for a spelling mistake. `default` is of proto2: in proto3 a field that is not set has 0, false, or nothing in it. Features and other options that no table has are left out."#,
+Cure: Look for a spelling mistake. `default` is of proto2: in proto3 a field that is not set has 0, false, or nothing in it. Of descriptor.proto's options twelve are not in the list, as `lazy` and `cc_generic_services`: `--skip-custom-options` compiles the sources as if they were not there, and `--set` serves what protoc writes."#,
         Topic::Kind(Kind::OptionTwice) => r#"The element set this option before.
 
 Where: the first token of the option's name.
@@ -452,7 +458,7 @@ Where: the import's string.
 
     a.proto:2:8: ImportMissing
 
-Cure: Set `--root` to the folder from which imports are written, or name another one by `--include`. Nothing is bundled: `--include /usr/include` takes what is imported from an installed protobuf. `describe` reads one file alone: a file with imports is for `compile`."#,
+Cure: Set `--root` to the folder from which imports are written, or name another one by `--include`. Nothing is bundled: `--include /usr/include` takes what is imported from an installed protobuf. `--skip-custom-options` leaves out imports of what is no source. `describe` reads one file alone: a file with imports is for `compile`. In a set no file has this name: `protoc --include_imports`, and `buf build`, write a set with all that its files import."#,
         Topic::Kind(Kind::ImportCycle) => r#"The file imports itself, or a file that reaches it.
 
 Where: the import's string.
@@ -531,6 +537,44 @@ Cure: Split the file.",
 Where: no file, and line 1, column 1.
 
 Cure: Compile a folder further below.",
+        Topic::MalformedSet =>
+            r#"The bytes are no `FileDescriptorSet`: they are no row of fields, as the encoding of Protocol Buffers has them.
+
+Where: the set.
+
+    printf 'syntax = "proto3";\n' > a.pb
+
+    a.pb: MalformedSet
+
+Cure: Give the set that `protoc --include_imports --descriptor_set_out=FILE`, `buf build --as-file-descriptor-set -o FILE` or `compile` wrote. Sources are for `--root`."#,
+        Topic::MalformedFile => r#"A file of the set is no row of fields, or its name is no UTF-8.
+
+Where: the file, by its position in the set.
+
+    printf '\n\3\n\5a' > a.pb
+
+    a.pb, file[0]: MalformedFile
+
+Cure: Write the set again: it was cut short or changed."#,
+        Topic::FileWithoutName => r#"A file of the set has no name, or an empty one.
+
+Where: the file, by its position in the set.
+
+    printf '\n\3\22\1p' > a.pb
+
+    a.pb, file[0]: FileWithoutName
+
+Cure: Give each file the name by which others import it."#,
+        Topic::MalformedContents =>
+            r#"An element of a file is no row of fields, or more than 66 stand in one another, or a name in it is no UTF-8.
+
+Where: the file.
+
+    printf '\n\16\n\7a.proto"\3\n\5A' > a.pb
+
+    a.proto: MalformedContents
+
+Cure: Write the set again: it was cut short or changed."#,
         Topic::Folder => "A folder of sources, or what stands below it, could not be listed or read.
 
 Where: one of these, and the line that finds it below `DIR`:
@@ -544,7 +588,12 @@ Where: one of these, and the line that finds it below `DIR`:
 - more than 1,048,576 files and folders: `find -L DIR | wc -l`
 - a file that the command line names, and that is not there
 
-Cure: `schema_server check --root DIR` names the entry and says what is wrong with it. Mend it, or take it out of the folder.",
+Cure: `--verbose` names the entry and says what is wrong with it, and so does `check`. Mend it, or take it out of the folder.",
+        Topic::Set => "The file that `--set` names could not be read.
+
+Where: it is not there, is a folder, or may not be read: `ls -l FILE`.
+
+Cure: Name the file by its path. `/dev/stdin` reads the set of `serve` from standard input.",
         Topic::Listen => "The service cannot listen at the address and the port that it was given.
 
 Where: one of these:

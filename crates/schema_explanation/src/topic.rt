@@ -12,8 +12,14 @@ const LIKE: f64 = 0.7;
 #[derive(Clone, Copy)]
 pub enum Topic {
     Kind(Kind),
+    /// Kinds that sets of descriptors alone have.
+    MalformedSet,
+    MalformedFile,
+    FileWithoutName,
+    MalformedContents,
     /// `device: folder`, and so on.
     Folder,
+    Set,
     Listen,
     Input,
     Output,
@@ -27,7 +33,12 @@ impl Topic {
     pub fn name(self) -> &'static str {
         match self {
             Topic::Kind(kind) => kind.name(),
+            Topic::MalformedSet => "MalformedSet",
+            Topic::MalformedFile => "MalformedFile",
+            Topic::FileWithoutName => "FileWithoutName",
+            Topic::MalformedContents => "MalformedContents",
             Topic::Folder => "device: folder",
+            Topic::Set => "device: set",
             Topic::Listen => "device: listen",
             Topic::Input => "device: input",
             Topic::Output => "device: output",

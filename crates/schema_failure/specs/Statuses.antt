@@ -7,14 +7,12 @@ use Rattle.schema_failure.specs.declared.failure.Verdict.{Verdict}
 use Rattle.schema_failure.specs.declared.failure.Verdict.TheVariants as verdict
 use Rattle.schema_failure.specs.declared.failure.ExitStatus.TheVariants as status
 
--- a fault of the sources, a device that failed, or no memory
+-- a fault of the sources or of a set, a device that failed, or no memory
 abbrev pub status_of : Failure → ExitStatus
 status_of (failure.Source file line column kind) = status.Fault
-status_of failure.Input = status.Device
-status_of failure.Output = status.Device
-status_of failure.Folder = status.Device
-status_of failure.Listen = status.Device
-status_of failure.Accept = status.Device
+status_of (failure.Set file kind) = status.Fault
+status_of (failure.Folder entry) = status.Device
+status_of (failure.Device device error) = status.Device
 status_of failure.NoMemory = status.NoMemory
 
 -- the exit status

@@ -1,17 +1,18 @@
 //! A failure, and what a run ends with.
 
-ghost use Rattle.std.specs.Prelude.{◌≡◌, ◌≤◌, ◌++◌, [], ◌∷◌, OnOk, Some};
+ghost use Rattle.std.specs.Prelude.{◌≡◌, ◌≤◌, ◌++◌, ◌⊎◌, [], ◌∷◌, IfSome, None, OnOk, Some};
 ghost use Rattle.std.specs.Io.KnownBytes.{Appends};
 ghost use Rattle.counted_io.specs.Memory.{IsUnlessNoMemory};
 ghost use Rattle.schema_failure.specs.declared.failure.Failure.TheVariants as failures;
-ghost use Rattle.schema_failure.specs.Faults.{of_exchange, of_folder};
-ghost use Rattle.schema_failure.specs.Lines.{line_of};
+ghost use Rattle.schema_failure.specs.Faults.{IsOfDevice, of_exchange, of_folder};
+ghost use Rattle.schema_failure.specs.Lines.{detail_of, device_name, line_of};
 ghost use Rattle.schema_failure.specs.Statuses.{code_of, status_after, status_of};
 
 use crate::shown::Shown;
 use counted_io::{IoFault, is_no_memory};
 use proto_base::Kind;
-use source_folder::FolderFault;
+use proto_sets::SetKind;
+use source_folder::{FolderFault, FolderTrouble, TroubledEntry};
 use std::alloc::{AllocError, AllocFailed};
 use std::error::Error;
 use std::fmt;
@@ -63,6 +64,35 @@ impl ExitStatus {
     }
 }
 
+/// What a run reads, writes or listens at.
+#[derive(Clone, Copy, Debug, PartialEq, Eq)]
+pub enum Device {
+    Input,
+    /// Standard output, or the file that the set goes to.
+    Output,
+    /// The file of a set.
+    Set,
+    /// The address and the port of a service.
+    Listen,
+    /// The connections of a service.
+    Accept,
+}
+
+impl Device {
+    /// Its name in a line.
+    pub fn name(self) -> &'static str
+        ensures { result.now ≡ device_name self }
+    {
+        match self {
+            Device::Input => "input",
+            Device::Output => "output",
+            Device::Set => "set",
+            Device::Listen => "listen",
+            Device::Accept => "accept",
+        }
+    }
+}
+
 /// Why a run came to no end, with its line for the user.
 #[derive(Debug, Drop)]
 pub enum Failure {
@@ -72,11 +102,18 @@ pub enum Failure {
         column: u32,
         kind: Kind,
     },
-    Input,
-    Output,
-    Folder,
-    Listen,
-    Accept,
+    /// A fault of a set of descriptors: the file that it is about, as users see it, and its kind.
+    Set {
+        file: String,
+        kind: SetKind,
+    },
+    /// A folder could not be listed or read: which entry was the trouble, where that is known.
+    Folder(Option<TroubledEntry>),
+    /// Another device failed: what the system said, where that is known.
+    Device {
+        device: Device,
+        error: Option<io::Error>,
+    },
     NoMemory,
 }
 
@@ -86,24 +123,33 @@ impl Failure {
         ensures { result ≡ status_of self.now }
     {
         match self {
-            Failure::Source { .. } => ExitStatus::Fault,
-            Failure::Input
-            | Failure::Output
-            | Failure::Folder
-            | Failure::Listen
-            | Failure::Accept => ExitStatus::Device,
+            Failure::Source { .. } | Failure::Set { .. } => ExitStatus::Fault,
+            Failure::Folder(_) | Failure::Device { .. } => ExitStatus::Device,
             Failure::NoMemory => ExitStatus::NoMemory,
         }
     }
 
-    /// This failure of a device, unless its error says that the allocator had no memory.
-    pub fn unless_no_memory(self, error: &io::Error) -> Failure
-        ensures { IsUnlessNoMemory error.now failures.NoMemory self result }
+    /// This device failed, of which no more is known.
+    pub fn of_device(device: Device) -> Failure
+        ensures { result ≡ failures.Device device None }
     {
-        if is_no_memory(error) {
-            Failure::NoMemory
-        } else {
-            self
+        Failure::Device {
+            device,
+            error: None,
+        }
+    }
+
+    /// This device failed with an error, unless that says that the allocator had no memory.
+    pub fn of_error(device: Device, error: io::Error) -> Failure
+        ensures exact { IsUnlessNoMemory error failures.NoMemory (failures.Device device (Some error)) result }
+        ensures either { IsOfDevice device result ⊎ (result ≡ failures.NoMemory) }
+    {
+        if is_no_memory(&error) {
+            return Failure::NoMemory;
+        }
+        Failure::Device {
+            device,
+            error: Some(error),
         }
     }
 }
@@ -119,11 +165,9 @@ impl fmt::Display for Failure {
                 column,
                 kind,
             } => write!(f, "{}:{line}:{column}: {kind}", Shown(file.as_str())),
-            Failure::Input => f.write_str("device: input"),
-            Failure::Output => f.write_str("device: output"),
-            Failure::Folder => f.write_str("device: folder"),
-            Failure::Listen => f.write_str("device: listen"),
-            Failure::Accept => f.write_str("device: accept"),
+            Failure::Set { file, kind } => write!(f, "{}: {kind}", Shown(file.as_str())),
+            Failure::Folder(_) => f.write_str("device: folder"),
+            Failure::Device { device, .. } => write!(f, "device: {}", device.name()),
             Failure::NoMemory => f.write_str("out of memory"),
         }
     }
@@ -137,6 +181,24 @@ pub fn write_failure<E: Write>(failure: &Failure, faults: &mut E) -> io::Result<
         (line_of failure.now ++ 10 ∷ [])) }
 {
     writeln!(faults, "{failure}")
+}
+
+/// Writes what is known beside the line of a failure, if anything is: which entry of a folder was the trouble, and why; or what the
+/// system said of the device, which is told by what the words call it.
+pub fn write_detail<E: Write>(failure: &Failure, called: &str, faults: &mut E) -> io::Result<()>
+    ensures { OnOk result (IfSome (detail_of failure.now)
+        (Appends (E.contents faults.old) (E.contents faults.new))) }
+{
+    match failure {
+        Failure::Folder(Some(TroubledEntry { path, reason })) => {
+            writeln!(faults, "{}: {reason}", Shown(path.as_str()))
+        }
+        Failure::Device {
+            error: Some(error),
+            ..
+        } => writeln!(faults, "{}: {error}", Shown(called)),
+        _ => Ok(()),
+    }
 }
 
 impl From<AllocError> for Failure {
@@ -155,12 +217,12 @@ impl<T: Drop> From<AllocFailed<T>> for Failure {
     }
 }
 
-impl From<FolderFault> for Failure {
-    ghost from_gives = { λ fault failure. failure ≡ of_folder fault };
+impl From<FolderTrouble> for Failure {
+    ghost from_gives = { λ trouble failure. failure ≡ of_folder trouble };
 
-    fn from(fault: FolderFault) -> Failure {
-        match fault {
-            FolderFault::Listing | FolderFault::Reading => Failure::Folder,
+    fn from(trouble: FolderTrouble) -> Failure {
+        match trouble.fault {
+            FolderFault::Listing | FolderFault::Reading => Failure::Folder(trouble.entry),
             FolderFault::NoMemory => Failure::NoMemory,
         }
     }
@@ -171,8 +233,8 @@ impl From<IoFault> for Failure {
 
     fn from(fault: IoFault) -> Failure {
         match fault {
-            IoFault::ReadFault => Failure::Input,
-            IoFault::WriteFault { .. } => Failure::Output,
+            IoFault::ReadFault => Failure::of_device(Device::Input),
+            IoFault::WriteFault { .. } => Failure::of_device(Device::Output),
             IoFault::NoMemory => Failure::NoMemory,
         }
     }

@@ -4,5 +4,5 @@
 mod failure;
 mod shown;
 
-pub use failure::{ExitStatus, Failure, Verdict, write_failure};
+pub use failure::{Device, ExitStatus, Failure, Verdict, write_detail, write_failure};
 pub use shown::Shown;

@@ -1,20 +1,25 @@
 -- What a run did, and what it ended with.
 use Rattle.std.specs.Prelude.{◌≡◌, ℕ, List, Option, Some, None, IfSome, Result, Ok, Err}
 use Rattle.clap.specs.declared.parser.matches.ArgMatches.{ArgMatches}
+use Rattle.first_reach.specs.declared.mode.Mode.{Mode}
 use Rattle.counted_io.specs.Runs.{IsWritten, IsWrittenInPart}
 use Rattle.counted_io.specs.Streams.{Reads, Writes}
 use Rattle.schema_check.specs.Runs.{IsFolderCheck}
 use Rattle.schema_command_line.specs.Tasks.{IsAsked}
+use Rattle.schema_command_line.specs.declared.task.Asked.{Asked}
+use Rattle.schema_command_line.specs.declared.task.Origin.{Origin}
+use Rattle.schema_command_line.specs.declared.task.Origin.TheVariants as origin
 use Rattle.schema_command_line.specs.declared.task.Task.{Task}
 use Rattle.schema_command_line.specs.declared.task.Task.TheVariants as task
-use Rattle.schema_commands.specs.Runs.{IsAnswerRun, IsCompileRun, IsDescribeRun, IsExplainRun}
+use Rattle.schema_commands.specs.Runs.{IsAnswerRun, IsCompileRun, IsDescribeRun, IsExplainRun, IsSetAnswerRun}
 use Rattle.schema_failure.specs.Statuses.{code_of, status_after}
 use Rattle.schema_failure.specs.declared.failure.Failure.{Failure}
 use Rattle.schema_failure.specs.declared.failure.ExitStatus.{ExitStatus}
 use Rattle.schema_failure.specs.declared.failure.ExitStatus.TheVariants as status
 use Rattle.schema_failure.specs.declared.failure.Verdict.{Verdict}
 use Rattle.schema_failure.specs.declared.failure.Verdict.TheVariants as verdict
-use Rattle.schema_serve.specs.Runs.{IsServeRun}
+use Rattle.schema_serve.specs.Runs.{IsServeRun, IsSetServeRun}
+use Rattle.schema_sources.specs.Texts.{unknown}
 
 -- a command that gives no verdict ended so, and where it came to its end the sources have no fault
 abbrev pub EndsSound : (Result (Unit {0}) Failure → Type 0) → Result Verdict Failure → Type 0
@@ -26,16 +31,25 @@ abbrev pub sound_of : Result (Unit {0}) Failure → Result Verdict Failure
 sound_of (Ok a) = Ok verdict.Sound
 sound_of (Err failure) = Err failure
 
+-- what serving, and answering, from sources of a folder or from a set read and wrote; what the folder has is not known
+abbrev pub IsServeFrom : {A : Type 0} → Origin → List ℕ → Option ℕ → Writes → Writes → Result A Failure → Type 0
+IsServeFrom (origin.Sources selection) = IsServeRun (unknown selection.custom_options)
+IsServeFrom (origin.Set path) = IsSetServeRun path.now
+
+abbrev pub IsAnswerFrom : {A : Type 0} → Origin → Mode → Reads → Reads → Writes → Writes → Result A Failure → Type 0
+IsAnswerFrom (origin.Sources selection) = IsAnswerRun (unknown selection.custom_options)
+IsAnswerFrom (origin.Set path) = IsSetAnswerRun path.now
+
 -- what a task read and wrote, by how it ended
 abbrev pub IsPerformed : Task → Reads → Reads → Writes → Writes → Result Verdict Failure → Type 0
 IsPerformed (task.Compile selection plan file) reads reads' writes writes' =
-    EndsSound (λ done. IsCompileRun None file writes writes' done)
+    EndsSound (λ done. IsCompileRun (unknown selection.custom_options) file writes writes' done)
 IsPerformed (task.Check selection plan) reads reads' writes writes' =
-    λ done. IsFolderCheck None selection.root.now writes writes' done
-IsPerformed (task.Serve selection listen plan mode connections) reads reads' writes writes' =
-    EndsSound (λ done. IsServeRun None listen.now connections writes writes' done)
-IsPerformed (task.Answer selection plan mode) reads reads' writes writes' =
-    EndsSound (λ done. IsAnswerRun None mode reads reads' writes writes' done)
+    λ done. IsFolderCheck (unknown selection.custom_options) selection.root.now writes writes' done
+IsPerformed (task.Serve from service plan mode) reads reads' writes writes' =
+    EndsSound (λ done. IsServeFrom from service.listen.now service.connections writes writes' done)
+IsPerformed (task.Answer from plan mode) reads reads' writes writes' =
+    EndsSound (λ done. IsAnswerFrom from mode reads reads' writes writes' done)
 IsPerformed (task.Describe name) reads reads' writes writes' =
     EndsSound (λ done. IsDescribeRun name.now reads reads' writes writes' done)
 IsPerformed (task.Explain topic) reads reads' writes writes' =
@@ -53,14 +67,14 @@ IsUsageRun writes writes' status.NoMemory = writes' ≡ writes
 
 -- what became of what the words ask for: a task was performed, and the status is that of how it ended; or they ask for
 -- none
-abbrev pub IsEndOf : Option Task → Reads → Reads → Writes → Writes → ExitStatus → Type 0
+abbrev pub IsEndOf : Option Asked → Reads → Reads → Writes → Writes → ExitStatus → Type 0
 IsEndOf (Some asked) reads reads' writes writes' ended =
-    (done : Result Verdict Failure) × IsPerformed asked reads reads' writes writes' done × (ended ≡ status_after done)
+    (done : Result Verdict Failure) × IsPerformed asked.task reads reads' writes writes' done × (ended ≡ status_after done)
 IsEndOf None reads reads' writes writes' ended = IsUsageRun writes writes' ended
 
 -- a run, by the number that it ends with; its task is one that the parser found in the words
 pub record IsRun (reads reads' : Reads) (writes writes' : Writes) (code : ℕ) : Type 0 where
-  pub asked : Option Task
+  pub asked : Option Asked
   pub found : IfSome asked (λ one. (matches : ArgMatches) × IsAsked matches one)
   pub ended : ExitStatus
   pub run : IsEndOf asked reads reads' writes writes' ended

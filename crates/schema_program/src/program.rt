@@ -1,20 +1,22 @@
 //! The whole program, over any reader and writers.
 
-ghost use Rattle.std.specs.Prelude.{◌≡◌, ◌-◌, ◌<◌, ◌^◌};
+ghost use Rattle.std.specs.Prelude.{◌≡◌, ◌-◌, ◌<◌, ◌≤◌, ◌^◌};
 ghost use Rattle.std.specs.Result.{result_ok};
 ghost use Rattle.schema_failure.specs.Statuses.{status_after};
-ghost use Rattle.schema_program.specs.Performed.{IsEndOf, IsPerformed, IsRun, IsUsageRun, sound_of};
+ghost use Rattle.schema_program.specs.Performed.{IsAnswerFrom, IsEndOf, IsPerformed, IsRun, IsServeFrom, IsUsageRun, sound_of};
 
 use clap::Error;
 use clap::error::ErrorKind;
 use counted_io::{CountedRead, CountedWrite, write_bytes};
-use proto_base::Limits;
+use first_reach::Mode;
+use http_connection::ServeOptions;
 use schema_check::run_check;
-use schema_command_line::{Selection, Task, task_of};
-use schema_commands::{run_answer, run_compile, run_describe, run_explain};
-use schema_failure::{ExitStatus, Failure, Verdict, write_failure};
-use schema_serve::run_serve;
-use schema_sources::{SystemFolder, trouble_of};
+use schema_command_line::{Asked, Origin, Selection, Service, Task, Verbosity, asked_of};
+use schema_commands::{run_answer, run_answer_set, run_compile, run_describe, run_explain};
+use schema_failure::{Device, ExitStatus, Failure, Verdict, write_detail, write_failure};
+use schema_serve::{run_serve, run_serve_set};
+use schema_sources::SystemFolder;
+use share_work::Plan;
 use std::alloc::{AllocGlobal, Global};
 use std::io::Write;
 use std::net::Net;
@@ -22,15 +24,18 @@ use std::random::RandomSource;
 use std::rt::Files;
 use std::sync::Wait;
 use std::thread::Threads;
-use std::time::Clock;
+use std::time::{Clock, Duration};
 
 /// The folders and files that the words select.
-fn folder_of<'a, R>(rt: &'a R, selection: &'a Selection<'a>) -> SystemFolder<'a, R> {
+fn folder_of<'a, R>(rt: &'a R, selection: &'a Selection<'a>) -> SystemFolder<'a, R>
+    ensures { result.custom_options ≡ selection.now.custom_options }
+{
     SystemFolder {
         rt,
         root: selection.root,
         includes: &selection.includes,
         files: &selection.files,
+        custom_options: selection.custom_options,
     }
 }
 
@@ -44,14 +49,112 @@ fn sound(done: Result<(), Failure>) -> Result<Verdict, Failure>
     }
 }
 
-/// Does what a task asks for.
-fn perform<R, I, O>(rt: &R, task: &Task, input: &mut I, output: &mut O) -> Result<Verdict, Failure>
+/// How many clients the words ask for at once, and how long each has. The parser of the words lets no other counts through.
+fn options_of(service: &Service) -> ServeOptions
+    ensures { 1 ≤ service.now.clients → service.now.clients ≤ 1024 → result.clients ≡ service.now.clients }
+{
+    let time = service
+        .client_seconds
+        .map(|seconds| Duration::from_secs(u64::from(seconds)));
+    ServeOptions::new(service.clients, time).unwrap_or_default()
+}
+
+/// Serves from sources, or from a set.
+fn serve_from<R, O, E>(
+    rt: &R,
+    origin: &Origin,
+    service: &Service,
+    plan: Plan,
+    mode: Mode,
+    output: &mut O,
+    log: Option<&mut E>,
+) -> Result<(), Failure>
+where
+    R: Wait + Threads + Files + Clock + RandomSource + AllocGlobal + Sync + Clone + Drop + Net,
+    R::File: Sync,
+    R::Dir: Sync,
+    O: CountedWrite,
+    E: Write,
+    requires { (O.writes output.old).failures < 2 ^ 64 - 1 }
+    ensures { IsServeFrom origin.now service.now.listen.now service.now.connections
+        (O.writes output.old) (O.writes output.new) result }
+{
+    let options = options_of(service);
+    let listen = service.listen;
+    let connections = service.connections;
+    match origin {
+        Origin::Sources(selection) => {
+            let folder = folder_of(rt, selection);
+            run_serve(
+                rt,
+                &folder,
+                listen,
+                plan,
+                mode,
+                connections,
+                options,
+                output,
+                log,
+            )
+        }
+        Origin::Set(set) => run_serve_set(
+            rt,
+            set,
+            listen,
+            plan,
+            mode,
+            connections,
+            options,
+            output,
+            log,
+        ),
+    }
+}
+
+/// Answers from sources, or from a set.
+fn answer_from<R, I, O>(
+    rt: &R,
+    origin: &Origin,
+    plan: Plan,
+    mode: Mode,
+    input: &mut I,
+    output: &mut O,
+) -> Result<(), Failure>
+where
+    R: Threads + Files + AllocGlobal + Sync,
+    R::File: Sync,
+    R::Dir: Sync,
+    I: CountedRead,
+    O: CountedWrite,
+    requires reader_counts { (I.reads input.old).failures < 2 ^ 64 - 1 }
+    requires writer_counts { (O.writes output.old).failures < 2 ^ 64 - 1 }
+    ensures { IsAnswerFrom origin.now mode (I.reads input.old) (I.reads input.new)
+        (O.writes output.old) (O.writes output.new) result }
+{
+    match origin {
+        Origin::Sources(selection) => {
+            let folder = folder_of(rt, selection);
+            run_answer(rt, &folder, plan, mode, input, output)
+        }
+        Origin::Set(set) => run_answer_set(rt, set, plan, mode, input, output),
+    }
+}
+
+/// Does what a task asks for. A service may have a log.
+fn perform<R, I, O, E>(
+    rt: &R,
+    task: &Task,
+    input: &mut I,
+    output: &mut O,
+    log: Option<&mut E>,
+) -> Result<Verdict, Failure>
 where
     R: Wait + Threads + Files + Clock + RandomSource + AllocGlobal + Sync + Clone + Drop + Net,
     R::File: Sync,
     R::Dir: Sync,
     I: CountedRead,
     O: CountedWrite,
+    E: Write,
     requires reader_counts { (I.reads input.old).failures < 2 ^ 64 - 1 }
     requires writer_counts { (O.writes output.old).failures < 2 ^ 64 - 1 }
     ensures { IsPerformed task.now (I.reads input.old) (I.reads input.new) (O.writes output.old)
@@ -71,22 +174,13 @@ where
             run_check(rt, &folder, selection.root, *plan, output)
         }
         Task::Serve {
-            selection,
-            listen,
+            origin,
+            service,
             plan,
             mode,
-            connections,
-        } => {
-            let folder = folder_of(rt, selection);
-            sound(run_serve(rt, &folder, listen, *plan, *mode, *connections, output))
-        }
-        Task::Answer {
-            selection,
-            plan,
-            mode,
-        } => {
-            let folder = folder_of(rt, selection);
-            sound(run_answer(rt, &folder, *plan, *mode, input, output))
+        } => sound(serve_from(rt, origin, service, *plan, *mode, output, log)),
+        Task::Answer { origin, plan, mode } => {
+            sound(answer_from(rt, origin, *plan, *mode, input, output))
         }
         Task::Describe { name } => sound(run_describe(rt, name, input, output)),
         Task::Explain { topic } => sound(run_explain(rt.alloc(), *topic, output)),
@@ -94,14 +188,13 @@ where
 }
 
 /// The status of a run that ends so, after the line of its failure. That it cannot be printed changes nothing.
-fn finish<E: Write>(done: Result<Verdict, Failure>, faults: &mut E) -> ExitStatus
-    ensures { result ≡ status_after done }
+fn finish<E: Write>(done: &Result<Verdict, Failure>, faults: &mut E) -> ExitStatus
+    ensures { result ≡ status_after done.now }
 {
-    let status = ExitStatus::after(&done);
     if let Err(failure) = done {
-        let _ = write_failure(&failure, faults);
+        let _ = write_failure(failure, faults);
     }
-    status
+    ExitStatus::after(done)
 }
 
 /// Prints a text on the output.
@@ -129,9 +222,9 @@ fn tell_usage<O: CountedWrite, E: Write>(
     ensures { IsUsageRun (O.writes output.old) (O.writes output.new) result }
 {
     match error.kind() {
-        ErrorKind::OutOfMemory => finish(Err(Failure::NoMemory), faults),
+        ErrorKind::OutOfMemory => finish(&Err(Failure::NoMemory), faults),
         ErrorKind::DisplayHelp | ErrorKind::DisplayVersion => {
-            finish(print_text(alloc, error, output), faults)
+            finish(&print_text(alloc, error, output), faults)
         }
         _ => {
             let _ = write!(faults, "{error}");
@@ -140,25 +233,58 @@ fn tell_usage<O: CountedWrite, E: Write>(
     }
 }
 
-/// For `check`, the line that says which entry of a folder could not be read, and why.
-fn tell_trouble<R, E>(rt: &R, task: &Task, faults: &mut E)
-where
-    R: Threads + Files + AllocGlobal + Sync,
-    E: Write,
-{
-    let Task::Check { selection, .. } = task else {
-        return;
-    };
-    let folder = folder_of(rt, selection);
-    if let Some(trouble) = trouble_of(rt, &folder, &Limits::standard()) {
-        let _ = writeln!(faults, "{trouble}");
+/// What the words of a run call the device that failed.
+fn called<'a>(failure: &Failure, task: &Task<'a>) -> &'a str {
+    match task {
+        Task::Compile {
+            file: Some(file),
+            ..
+        } => file,
+        Task::Serve { service, .. } if is_of_listening(failure) => service.listen,
+        Task::Serve {
+            origin: Origin::Set(set),
+            ..
+        } => set,
+        Task::Answer {
+            origin: Origin::Set(set),
+            ..
+        } => set,
+        _ => "standard output",
+    }
+}
+
+fn is_of_listening(failure: &Failure) -> bool {
+    matches!(
+        failure,
+        Failure::Device {
+            device: Device::Listen,
+            ..
+        }
+    )
+}
+
+/// Tells what is known beside the line of a failure, where the run is verbose. `check` is for people, so it tells that always.
+fn tell_detail<E: Write>(done: &Result<Verdict, Failure>, asked: &Asked, faults: &mut E) {
+    let is_verbose = matches!(asked.verbosity, Verbosity::Verbose);
+    if let Err(failure) = done {
+        if is_verbose || matches!(asked.task, Task::Check { .. }) {
+            let _ = write_detail(failure, called(failure, &asked.task), faults);
+        }
+    }
+}
+
+/// What the log of a service goes to, where there is one.
+fn log_of<'e, E>(verbosity: Verbosity, faults: &'e mut E) -> Option<&'e mut E> {
+    match verbosity {
+        Verbosity::Brief => None,
+        Verbosity::Verbose => Some(faults),
     }
 }
 
 /// Does what the words ask for, or tells why they ask for nothing.
 fn end_of<R, I, O, E>(
     rt: &R,
-    asked: &Result<Task, Error>,
+    asked: &Result<Asked, Error>,
     input: &mut I,
     output: &mut O,
     faults: &mut E,
@@ -176,13 +302,11 @@ where
         (O.writes output.old) (O.writes output.new) result }
 {
     match asked {
-        Ok(task) => {
-            let done = perform(rt, task, input, output);
-            let is_unread = matches!(done, Err(Failure::Folder));
-            let status = finish(done, faults);
-            if is_unread {
-                tell_trouble(rt, task, faults);
-            }
+        Ok(asked) => {
+            let log = log_of(asked.verbosity, faults);
+            let done = perform(rt, &asked.task, input, output, log);
+            let status = finish(&done, faults);
+            tell_detail(&done, asked, faults);
             status
         }
         Err(error) => tell_usage(rt.alloc(), error, output, faults),
@@ -191,8 +315,8 @@ where
 
 /// Runs the program on `words`, whose first is its name, and gives its exit status: 0 done, 1 a fault of a source,
 /// 2 a wrong command line, 3 a device that failed, 4 no memory. For 1, 3 and 4 one line goes to `faults`, but for the faults
-/// that `check` tells on the output, and a second one where `check` can't read a folder; for 2 the text of `clap`. What `faults`
-/// refuses is lost.
+/// that `check` tells on the output; for 2 the text of `clap`. A second line has what is known beside that one, for `check` and with
+/// `--verbose`, and then `serve` has a line for each request, too. What `faults` refuses is lost.
 pub fn run<R, I, O, E>(rt: &R, words: &[&str], input: &mut I, output: &mut O, faults: &mut E) -> u8
 where
     R: Wait + Threads + Files + Clock + RandomSource + AllocGlobal + Sync + Clone + Drop + Net,
@@ -206,6 +330,6 @@ where
     ensures { IsRun (I.reads input.old) (I.reads input.new) (O.writes output.old)
         (O.writes output.new) result }
 {
-    let asked = task_of(rt.alloc(), words);
+    let asked = asked_of(rt.alloc(), words);
     end_of(rt, &asked, input, output, faults).code()
 }

@@ -1,16 +1,17 @@
 -- A run of `serve` that was cut off while its line was written.
-use Rattle.std.proofs.Common.{◌≡◌, List, ℕ, Err, refl}
+use Rattle.std.proofs.Common.{◌≡◌, List, ℕ, Err, None, refl}
 use Rattle.counted_io.specs.Runs.{IsWriteRun}
 use Rattle.counted_io.specs.Streams.{Writes}
 use Rattle.counted_io.specs.declared.stream.IoFault.{IoFault}
 use Rattle.counted_io.specs.declared.stream.IoFault.TheVariants as io_fault
 use Rattle.schema_failure.specs.Faults.{of_exchange}
-use Rattle.schema_serve.specs.Runs.{IsAddress, IsCutOff, listening_line, unsaid}
+use Rattle.schema_serve.specs.Bound.{IsBoundBy}
+use Rattle.schema_serve.specs.Runs.{IsCutOff, listening_line, unsaid}
 use Rattle.std.specs.declared.net.SocketAddr.{SocketAddr}
 
 pub cut_in_line : (listen bytes : List ℕ) (writes writes' : Writes) (address : SocketAddr) (fault : IoFault)
-    → IsAddress listen → bytes ≡ listening_line address → IsWriteRun {A = Unit {0}} writes writes' bytes (Err fault)
+    → IsBoundBy listen address → bytes ≡ listening_line address → IsWriteRun {A = Unit {0}} writes writes' bytes (Err fault)
     → IsCutOff listen writes writes' (of_exchange fault)
-cut_in_line listen bytes writes writes' address (io_fault.WriteFault written) asked said run =
-    unsaid refl asked address written (rw said at run)
-cut_in_line listen bytes writes writes' address fault asked said run = absurd run
+cut_in_line listen bytes writes writes' address (io_fault.WriteFault written) bound said run =
+    unsaid (None, refl) address bound written (rw said at run)
+cut_in_line listen bytes writes writes' address fault bound said run = absurd run

@@ -1,6 +1,8 @@
-//! The command `serve`: reflection over the sources of a folder, by HTTP.
+//! The command `serve`: reflection over the sources of a folder, or over a set, by HTTP.
 #![tactic(auto)]
 
+mod bound;
+mod log;
 mod serve;
 
-pub use serve::run_serve;
+pub use serve::{run_serve, run_serve_set};

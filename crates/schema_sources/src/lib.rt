@@ -8,4 +8,4 @@ mod system_folder;
 
 pub use folder::{SourceFolder, read_sources};
 pub use places::{Elsewhere, Places};
-pub use system_folder::{SystemFolder, trouble_of};
+pub use system_folder::SystemFolder;

@@ -1,7 +1,7 @@
 //! A shelf on which texts are found without custom options.
 
 use proto_base::Limits;
-use source_folder::FolderFault;
+use source_folder::FolderTrouble;
 use source_search::Shelf;
 use source_skip::{begins_other, skip};
 use std::alloc::Global;
@@ -18,7 +18,7 @@ impl<S: Shelf> Shelf for Skipping<'_, S> {
 
     ghost texts = { λ skipping. known_skipped (S.texts skipping.shelf.now) };
 
-    fn text_of(&self, name: &str, limits: &Limits) -> Result<Option<Vec<u8>>, FolderFault> {
+    fn text_of(&self, name: &str, limits: &Limits) -> Result<Option<Vec<u8>>, FolderTrouble> {
         let Some(mut text) = self.shelf.text_of(name, limits)? else {
             return Ok(None);
         };

@@ -11,7 +11,7 @@ use crate::reading::imports_of_each;
 use crate::shelf::Shelf;
 use proto_base::Limits;
 use share_work::Plan;
-use source_folder::{FolderFault, NamedText};
+use source_folder::{FolderFault, FolderTrouble, NamedText};
 use std::alloc::{AllocError, AllocGlobal, Global};
 use std::collections::BTreeSet;
 use std::thread::Threads;
@@ -72,7 +72,7 @@ impl Search {
         shelf: &S,
         limits: &Limits,
         name: &str,
-    ) -> Result<(), FolderFault>
+    ) -> Result<(), FolderTrouble>
         ensures { OnOk result (AsksFor limits.now (S.texts shelf.now) (name.now ∷ []) self.old
             self.new) }
     {
@@ -91,7 +91,7 @@ impl Search {
         shelf: &S,
         limits: &Limits,
         names: &[String],
-    ) -> Result<(), FolderFault>
+    ) -> Result<(), FolderTrouble>
         ensures { OnOk result (AsksFor limits.now (S.texts shelf.now) (map string_bytes names.now)
             self.old self.new) }
     {
@@ -108,7 +108,7 @@ impl Search {
         shelf: &S,
         limits: &Limits,
         lists: &[Vec<String>],
-    ) -> Result<(), FolderFault>
+    ) -> Result<(), FolderTrouble>
         ensures { OnOk result (AsksFor limits.now (S.texts shelf.now) (flat_map texts_in lists.now)
             self.old self.new) }
     {
@@ -125,7 +125,7 @@ impl Search {
         shelf: &S,
         limits: &Limits,
         plan: Plan,
-    ) -> Result<(), FolderFault>
+    ) -> Result<(), FolderTrouble>
     where
         R: Threads + AllocGlobal + Sync,
         S: Shelf,
@@ -140,7 +140,7 @@ impl Search {
         while done < self.sources.len() {
             let count = self.sources.len();
             if count > MAX_SOURCES {
-                return Err(FolderFault::Listing);
+                return Err(FolderTrouble::from(FolderFault::Listing));
             }
             let lists = imports_of_each(rt, plan, &self.sources[done..], limits)?;
             self.ask_all(alloc, shelf, limits, &lists)?;

@@ -10,7 +10,7 @@ use crate::search::Search;
 use crate::shelf::Shelf;
 use proto_base::Limits;
 use share_work::Plan;
-use source_folder::{FolderFault, NamedText};
+use source_folder::{FolderTrouble, NamedText};
 use std::alloc::AllocGlobal;
 use std::thread::Threads;
 
@@ -19,14 +19,14 @@ use std::thread::Threads;
 /// can be no path below a folder is not looked up. Workers share the reading of texts; the calling thread looks each name up
 /// once.
 ///
-/// An error is the shelf's own; `Listing`, where there are more than 1,048,576 sources; or `NoMemory`.
+/// A trouble is the shelf's own; `Listing` at no entry, where there are more than 1,048,576 sources; or `NoMemory`.
 pub fn with_imports<R, S>(
     rt: &R,
     given: Vec<NamedText>,
     shelf: &S,
     limits: &Limits,
     plan: Plan,
-) -> Result<Vec<NamedText>, FolderFault>
+) -> Result<Vec<NamedText>, FolderTrouble>
 where
     R: Threads + AllocGlobal + Sync,
     S: Shelf,

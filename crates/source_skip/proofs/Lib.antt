@@ -1,11 +1,11 @@
 mod Scans
-mod Behind
+pub mod Behind
 mod Closing
 mod Going
-mod Entries
-mod Fronts
-mod Blanks
+pub mod Entries
+pub mod Fronts
+pub mod Blanks
 mod Lengths
 mod TokenEnds
 mod LineEnds
-mod Plain
+pub mod Plain

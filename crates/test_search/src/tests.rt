@@ -6,7 +6,7 @@ ghost use Rattle.proto_base.specs.NameOrder.{NamesRise};
 
 use proto_base::Limits;
 use share_work::Plan;
-use source_folder::{FolderFault, NamedText};
+use source_folder::{FolderFault, FolderTrouble, NamedText};
 use source_search::{Shelf, with_imports};
 use std::alloc::{AllocError, AllocGlobal, Global};
 use std::cell::Cell;
@@ -29,7 +29,7 @@ impl Shelf for MemoryShelf {
 
     ghost texts = { λ _. None };
 
-    fn text_of(&self, name: &str, _limits: &Limits) -> Result<Option<Vec<u8>>, FolderFault> {
+    fn text_of(&self, name: &str, _limits: &Limits) -> Result<Option<Vec<u8>>, FolderTrouble> {
         self.calls.set(self.calls.get().saturating_add(1));
         for (file, text) in self.files {
             if *file == name {
@@ -49,8 +49,8 @@ impl Shelf for BrokenShelf {
 
     ghost texts = { λ _. None };
 
-    fn text_of(&self, _name: &str, _limits: &Limits) -> Result<Option<Vec<u8>>, FolderFault> {
-        Err(FolderFault::Reading)
+    fn text_of(&self, _name: &str, _limits: &Limits) -> Result<Option<Vec<u8>>, FolderTrouble> {
+        Err(FolderTrouble::from(FolderFault::Reading))
     }
 }
 
@@ -295,7 +295,10 @@ fn is_fault_told<R: Threads + AllocGlobal + Sync>(
 ) -> Result<bool, AllocError> {
     let given = given_of(rt.alloc(), given)?;
     let found = with_imports(rt, given, &BrokenShelf, &Limits::standard(), Plan::single());
-    Ok(matches!(found, Err(FolderFault::Reading)))
+    let Err(trouble) = found else {
+        return Ok(false);
+    };
+    Ok(matches!(trouble.fault, FolderFault::Reading))
 }
 
 #[test]

@@ -22,7 +22,8 @@ returns-in_err-elsewhere g c = (
 
 pub returns : goal.returns
 returns g c =
-    let P : List NamedText → Type 0 = λ texts. AreTextsOf (g.F.SourceFolder.sources c.args.folder.now) texts in (
+    let P : List NamedText → Type 0 =
+    λ texts. AreTextsOf c.standard-limits.result (g.F.SourceFolder.sources c.args.folder.now) texts in (
       c.standard-limits.result,
       c.standard-limits.ensures,
       inr (

@@ -1,25 +1,29 @@
-use Rattle.std.proofs.Common.{None}
-use Rattle.schema_commands.specs.Runs.{IsAnswerRun, IsCompileRun, IsDescribeRun}
+use Rattle.schema_commands.specs.Runs.{IsCompileRun, IsDescribeRun, IsExplainRun}
 use Rattle.schema_program.proofs.Ending.{ends_sound}
-use Rattle.schema_serve.specs.Runs.{IsServeRun}
+use Rattle.schema_program.specs.Performed.{IsAnswerFrom, IsServeFrom}
+use Rattle.schema_sources.specs.Texts.{unknown}
 use Rattle.schema_program.proofs.program.perform.Goals as goal
 
 pub returns-in-Compile : goal.returns-in-Compile
 returns-in-Compile g c =
     let writes = g.O.CountedWrite.writes in
     rw c.in-Compile.is
-    (ends_sound (λ done. IsCompileRun None c.in-Compile.file (writes c.args.output.now)
-    (writes c.run_compile.new.writer) done)
-    c.run_compile.result c.sound.result c.sound.ensures c.run_compile.ensures)
+    (ends_sound (λ done. IsCompileRun (unknown c.in-Compile.selection.custom_options) c.in-Compile.file
+    (writes c.args.output.now) (writes c.run_compile.new.writer) done)
+    c.run_compile.result c.sound.result c.sound.ensures
+    (rw c.folder_of-folder.ensures at c.run_compile.ensures))
+
+pub returns-in-Check : goal.returns-in-Check
+returns-in-Check g c = rw c.in-Check.is (rw c.folder_of-folder-in-Check.ensures at c.run_check.ensures)
 
 pub returns-in-Answer : goal.returns-in-Answer
 returns-in-Answer g c =
     let reads = g.I.CountedRead.reads in
     let writes = g.O.CountedWrite.writes in
     rw c.in-Answer.is
-    (ends_sound (λ done. IsAnswerRun None c.in-Answer.mode (reads c.args.input.now) (reads c.run_answer.new.reader)
-    (writes c.args.output.now) (writes c.run_answer.new.writer) done)
-    c.run_answer.result c.sound-in-Answer.result c.sound-in-Answer.ensures c.run_answer.ensures)
+    (ends_sound (λ done. IsAnswerFrom c.in-Answer.origin c.in-Answer.mode (reads c.args.input.now)
+    (reads c.answer_from.new.input) (writes c.args.output.now) (writes c.answer_from.new.output) done)
+    c.answer_from.result c.sound-in-Answer.result c.sound-in-Answer.ensures c.answer_from.ensures)
 
 pub returns-in-Describe : goal.returns-in-Describe
 returns-in-Describe g c =
@@ -34,6 +38,13 @@ pub returns-in-Serve : goal.returns-in-Serve
 returns-in-Serve g c =
     let writes = g.O.CountedWrite.writes in
     rw c.in-Serve.is
-    (ends_sound (λ done. IsServeRun None c.in-Serve.listen.now c.in-Serve.connections (writes c.args.output.now)
-    (writes c.run_serve.new.output) done)
-    c.run_serve.result c.sound-in-Serve.result c.sound-in-Serve.ensures c.run_serve.ensures)
+    (ends_sound (λ done. IsServeFrom c.in-Serve.origin c.in-Serve.service.listen.now c.in-Serve.service.connections
+    (writes c.args.output.now) (writes c.serve_from.new.output) done)
+    c.serve_from.result c.sound-in-Serve.result c.sound-in-Serve.ensures c.serve_from.ensures)
+
+pub returns-in-Explain : goal.returns-in-Explain
+returns-in-Explain g c =
+    let writes = g.O.CountedWrite.writes in
+    rw c.in-Explain.is
+    (ends_sound (λ done. IsExplainRun (writes c.args.output.now) (writes c.run_explain.new.writer) done)
+    c.run_explain.result c.sound-in-Explain.result c.sound-in-Explain.ensures c.run_explain.ensures)

@@ -1,68 +1,15 @@
-use Rattle.std.proofs.Common.{◌∙◌, arith, inl, inr, refl, rules}
+use Rattle.std.proofs.Common.{inl, inr, refl}
 use Rattle.schema_compile.proofs.Telling.{handed_on}
-use Rattle.schema_serve.specs.Runs.{unheard, ended}
-use Rattle.schema_serve.proofs.Cutting.{cut_in_line}
 use Rattle.schema_serve.proofs.serve.run_serve.Goals as goal
 
 pub returns-in_err-compiled : goal.returns-in_err-compiled
 returns-in_err-compiled g c =
     rw (handed_on c.from_residual.result _ c.from_residual.ensures.1)
-    (inl (c.standard.result, c.standard.ensures, c.in_err-compiled.ensures.refused, refl))
-
-pub returns-in_err-shared : goal.returns-in_err-shared
-returns-in_err-shared g c =
-    rw (handed_on c.from_residual-in_err-shared.result _ c.from_residual-in_err-shared.ensures.1)
-    (inr (
-      (c.standard.result, c.standard.ensures, c.in_ok-compiled.compiled, c.in_ok-compiled.ensures.compiled),
-      unheard (inr refl) refl,
-    ))
-
-pub returns-in_err-runtime : goal.returns-in_err-runtime
-returns-in_err-runtime g c =
-    rw (handed_on c.from_residual-in_err-runtime.result _ c.from_residual-in_err-runtime.ensures.1)
-    (inr (
-      (c.standard.result, c.standard.ensures, c.in_ok-compiled.compiled, c.in_ok-compiled.ensures.compiled),
-      unheard (inl c.in_err-runtime.ensures.failed) refl,
-    ))
-
-pub returns-in_err-bound : goal.returns-in_err-bound
-returns-in_err-bound g c =
-    rw (handed_on c.from_residual-in_err-bound.result _ c.from_residual-in_err-bound.ensures.1)
-    (inr (
-      (c.standard.result, c.standard.ensures, c.in_ok-compiled.compiled, c.in_ok-compiled.ensures.compiled),
-      unheard (inl (search rules)) refl,
-    ))
-
-pub returns-in_err-line : goal.returns-in_err-line
-returns-in_err-line g c =
-    rw (handed_on c.from_residual-in_err-line.result _ c.from_residual-in_err-line.ensures.1)
-    (inr (
-      (c.standard.result, c.standard.ensures, c.in_ok-compiled.compiled, c.in_ok-compiled.ensures.compiled),
-      unheard (inr refl) refl,
-    ))
-
-pub returns-in_err-write_bytes : goal.returns-in_err-write_bytes
-returns-in_err-write_bytes g c =
-    rw (handed_on c.from_residual-in_err-write_bytes.result _ c.from_residual-in_err-write_bytes.ensures.1)
-    (inr (
-      (c.standard.result, c.standard.ensures, c.in_ok-compiled.compiled, c.in_ok-compiled.ensures.compiled),
-      cut_in_line c.args.listen.now c.as_bytes.result.now _ _ c.in_ok-bound.bound c.in_err-write_bytes.field-0.0
-          c.in_ok-runtime.ensures.asked (c.as_bytes.ensures.value ∙ c.in_ok-line.ensures.ok)
-          c.in_err-write_bytes.ensures,
-    ))
+    (c.standard.result, c.standard.ensures, inl (c.in_err-compiled.ensures.refused, refl))
 
 pub returns : goal.returns
-returns g c = inr (
-  (c.standard.result, c.standard.ensures, c.in_ok-compiled.compiled, c.in_ok-compiled.ensures.compiled),
-  ended c.in-Err.fault c.failure_of.ensures c.in_ok-runtime.ensures.asked c.in_ok-bound.bound
-      (rw (c.as_bytes.ensures.value ∙ c.in_ok-line.ensures.ok) at c.in_ok-write_bytes.ensures),
-)
-
-pub returns-in-Ok : goal.returns-in-Ok
-returns-in-Ok g c = (
-  λ none. grind (arith, none),
-  (c.standard.result, c.standard.ensures, c.in_ok-compiled.compiled, c.in_ok-compiled.ensures.compiled),
-  c.in_ok-runtime.ensures.asked,
-  c.in_ok-bound.bound,
-  rw (c.as_bytes.ensures.value ∙ c.in_ok-line.ensures.ok) at c.in_ok-write_bytes.ensures,
+returns g c = (
+  c.standard.result,
+  c.standard.ensures,
+  inr (c.in_ok-compiled.compiled, c.in_ok-compiled.ensures.compiled, c.serve_over.ensures),
 )

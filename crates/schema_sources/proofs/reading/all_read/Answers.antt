@@ -1,7 +1,7 @@
 use Rattle.std.proofs.Common.{◌≡◌, ◌∙◌, sym, arith, map-id, length, take}
 use Rattle.std.proofs.lemmas.Iterator.Adapters.{YieldsList-from_vec}
 use Rattle.std.proofs.lemmas.Iterator.Consumers.{YieldsList-so_far, YieldsList-turn}
-use Rattle.schema_sources.proofs.Listing.{fault_behind, well_more}
+use Rattle.schema_sources.proofs.Listing.{trouble_behind, well_more}
 use Rattle.schema_sources.proofs.reading.all_read.Goals as goal
 
 pub loop-outcome-preserved : goal.loop-outcome-preserved
@@ -18,5 +18,5 @@ returns-in-Err-clause-first c =
     sym (map-id l.yielded) ∙ YieldsList-so_far all l.yielded l.outcome-iterator l.yielded_by in
     let turn = YieldsList-turn all l.yielded l.outcome-iterator l.yielded_by c.next.result c.next.new.self
     c.in-Some.outcome c.in-Some.is c.next.ensures.steps in
-    fault_behind c.args.outcomes.items (length l.yielded) l.texts.items c.in-Some.outcome c.in-Err.fault
+    trouble_behind c.args.outcomes.items (length l.yielded) l.texts.items c.in-Some.outcome c.in-Err.trouble
     (l.invariant ∙ so_far) turn.0 turn.1 c.in-Err.is

@@ -4,7 +4,7 @@ use Rattle.proto_base.specs.NameOrder.{NamesRise}
 use Rattle.share_work.specs.Shares.{GivesItems}
 use Rattle.source_folder.specs.Folder.{names_of}
 use Rattle.source_folder.specs.declared.folder.NamedText.{NamedText}
-use Rattle.schema_sources.specs.Texts.{AreTextsOf}
+use Rattle.schema_sources.specs.Reading.{AreTakenOf}
 use Rattle.schema_sources.proofs.Listing.{Under, are_texts, same_names}
 use Rattle.schema_sources.proofs.reading.listed_sources.Goals as goal
 
@@ -16,7 +16,7 @@ returns-clause-texts g c =
     let gives = subst (λ (ns : List (String Global)). GivesItems (λ k. Under known) 0 ns outcomes)
     c.deref.ensures.value c.in_ok-outcomes.ensures in
     IfOk-weaker c.all_read.result (λ (texts : Vec NamedText Global). outcomes ≡ map Ok texts.items)
-    (λ texts. AreTextsOf known texts.items)
+    (λ texts. AreTakenOf known texts.items)
     (λ texts read. are_texts known names texts.items outcomes c.in_ok-names.ensures.names gives read)
     c.all_read.ensures.read
 

@@ -1,0 +1,5 @@
+pub mod Connections
+pub mod Exchange
+pub mod Messages
+pub mod Receiving
+pub mod Responses

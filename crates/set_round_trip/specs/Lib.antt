@@ -1,0 +1,3 @@
+pub mod ButPlaces
+pub mod Fits
+pub mod Readable

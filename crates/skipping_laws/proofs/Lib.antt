@@ -1,0 +1,10 @@
+mod Watch
+mod Calm
+mod Ends
+mod Written
+mod Known
+mod Keeping
+mod Strings
+mod Loose
+mod Files
+mod Sources
