@@ -261,8 +261,7 @@ entry_fits : (room : ℕ) → 1 < room → (m : MapField) → TreeFits (declarat
 entry_fits zero deep m all = absurd (omega (arith, deep))
 entry_fits (suc room) deep m all =
     let some : 0 < room = omega (arith, deep) in
-    rolled_fits room _ (entry_text m.declarator.name.text all.0.utf8)
-    (
+    rolled_fits room _ (entry_text m.declarator.name.text all.0.utf8) (
       record { some = some; name = key_text; number = omega arith; index = tt },
       record { some = some; name = value_text; number = omega arith; index = tt },
       tt,
