@@ -1,6 +1,6 @@
 -- What a source with a name describes fits. A message at the greatest depth has two elements within one another at most:
 -- an entry and its fields, or an enum and its values.
-use Rattle.std.proofs.Common.{◌≡◌, sym, subst, ℕ, zero, suc, ◌+◌, ◌<◌, ◌≤◌, ◌^◌, Bool, true, false, cond, not, ◌==◌, ◌&&◌, List, [], ◌∷◌, ◌++◌, length, map, flat_map, slice_get, Option, None, Some, IfSome, IsUtf8, arith, length-append}
+use Rattle.std.proofs.Common.{◌≡◌, refl, sym, subst, ℕ, zero, suc, ◌+◌, ◌<◌, ◌≤◌, ◌^◌, Bool, true, false, cond, not, ◌==◌, ◌&&◌, List, [], ◌∷◌, ◌++◌, length, map, flat_map, slice_get, Option, None, Some, IfSome, IsUtf8, arith, length-append}
 use Rattle.std.proofs.lemmas.Str.{IsUtf8-append, IsUtf8-nil}
 use Rattle.std.specs.List.{AllByRecursion}
 use Rattle.std.specs.Option.{is_some}
@@ -74,16 +74,16 @@ record IsFitting (g : Grammar) (t : Tree) : Type 0 where
   few : length (flatten t) < 2 ^ 63
 
 two_trees : {a b : Grammar} {x y : Tree} → IsTree (a ⨾ b) (Pair x y) → IsTree a x × IsTree b y
-two_trees (both_trees one other) = (one, other)
+two_trees (both_trees left right) = (left, right)
 
 more_trees : {a : Grammar} {x y : Tree} → IsTree (Many a) (Pair x y) → IsTree a x × IsTree (Many a) y
-more_trees (more one others) = (one, others)
+more_trees (more item others) = (item, others)
 
 first_tree : {a b : Grammar} {x : Tree} → IsTree (a ∣ b) (Left x) → IsTree a x
-first_tree (first one) = one
+first_tree (first tree) = tree
 
 second_tree : {a b : Grammar} {x : Tree} → IsTree (a ∣ b) (Right x) → IsTree b x
-second_tree (second other) = other
+second_tree (second tree) = tree
 
 -- what is known of a pair's trees where its tokens fit and are few
 parts_fit : {a b : Grammar} (x y : Tree) → TreeFits (Pair x y) → length (flatten (Pair x y)) < 2 ^ 63
@@ -263,8 +263,7 @@ entry_fits (suc room) deep m all =
     let some : 0 < room = omega (arith, deep) in
     rolled_fits room _ (entry_text m.declarator.name.text all.0.utf8) (
       record { some = some; name = key_text; number = omega arith; index = tt },
-      record { some = some; name = value_text; number = omega arith; index = tt },
-      tt,
+      (record { some = some; name = value_text; number = omega arith; index = tt }, tt),
     ) tt tt tt
 
 message_enums : (room : ℕ) → 1 < room → (i : MessageItem) → TreeFits (message_item_tree i)
