@@ -1,12 +1,11 @@
 -- What a source with a name describes fits. A message at the greatest depth has two elements within one another at most:
 -- an entry and its fields, or an enum and its values.
-use Rattle.std.proofs.Common.{◌≡◌, refl, sym, subst, ℕ, zero, suc, ◌+◌, ◌<◌, ◌≤◌, ◌^◌, Bool, true, false, cond, not, ◌==◌, ◌&&◌, List, [], ◌∷◌, ◌++◌, length, map, flat_map, slice_get, Option, None, Some, IfSome, IsUtf8, arith, length-append}
+use Rattle.std.proofs.Common.{◌≡◌, refl, sym, subst, ℕ, zero, suc, ◌+◌, ◌<◌, ◌≤◌, ◌^◌, Bool, true, false, cond, not, ◌==◌, ◌&&◌, List, [], ◌∷◌, ◌++◌, length, map, flat_map, Option, None, Some, IfSome, IsUtf8, arith, length-append}
 use Rattle.std.proofs.lemmas.Str.{IsUtf8-append, IsUtf8-nil}
 use Rattle.std.specs.List.{AllByRecursion}
 use Rattle.std.specs.Option.{is_some}
 use Rattle.proto_base.specs.declared.limits.Limits.{Limits}
 use Rattle.proto_desc.specs.DeclaredNames.{file_scope}
-use Rattle.proto_desc.specs.declared.enumeration.EnumDesc.{EnumDesc}
 use Rattle.proto_desc.specs.declared.field.FieldDesc.{FieldDesc}
 use Rattle.proto_desc.specs.declared.field.FieldKind.{FieldKind}
 use Rattle.proto_desc.specs.declared.field.FieldKind.TheVariants.{Named}
@@ -14,7 +13,7 @@ use Rattle.proto_desc.specs.declared.field.FieldLabel.{FieldLabel}
 use Rattle.proto_desc.specs.declared.field.FieldLabel.TheVariants.{Optional, Repeated}
 use Rattle.proto_desc.specs.declared.file.FileDesc.{FileDesc}
 use Rattle.proto_desc.specs.declared.file.PackageDescriptor.{PackageDescriptor}
-use Rattle.proto_desc.specs.declared.message.MessageDesc.{MessageDesc, MessageDesc-F, out-MessageDesc, out-roll-MessageDesc, roll-MessageDesc}
+use Rattle.proto_desc.specs.declared.message.MessageDesc.{MessageDesc, MessageDesc-F, out-roll-MessageDesc, roll-MessageDesc}
 use Rattle.proto_desc.specs.declared.oneof.OneofDesc.{OneofDesc}
 use Rattle.proto_desc.specs.declared.type_name.TypeKind.TheVariants as type_kind
 use Rattle.proto_desc.specs.declared.type_name.TypeReference.TheVariants.{Resolved}
@@ -37,7 +36,7 @@ use Rattle.proto_syntax.proofs.Reach.{not_empty_longer}
 use Rattle.proto_syntax.specs.Grammar.{Grammar, ◌⨾◌, ◌∣◌, Many, Tree, Pair, Left, Right, IsTree, both as both_trees, first, second, more, flatten}
 use Rattle.proto_syntax.specs.Language as language
 use Rattle.proto_syntax.specs.Reading.{can_be_empty}
-use Rattle.proto_syntax.specs.Trees.{declarator_tree, enum_item_tree, enum_tree, field_statement_tree, file_tree, message_item_tree, message_tree, oneof_item_tree, row, rpc_tree, service_item_tree, service_tree, statement_tree, str_tree, string_tree}
+use Rattle.proto_syntax.specs.Trees.{declarator_tree, enum_item_tree, enum_tree, field_statement_tree, file_tree, message_item_tree, message_tree, oneof_item_tree, row, service_item_tree, service_tree, statement_tree, str_tree, string_tree}
 use Rattle.proto_tree.specs.Text.{joined, literal_text}
 use Rattle.proto_tree.specs.declared.enumeration.Enum.{Enum}
 use Rattle.proto_tree.specs.declared.enumeration.EnumItem.{EnumItem}

@@ -1,5 +1,5 @@
 -- The set of sources is read, where each of its files is by itself and the limits of the reader are no lower.
-use Rattle.std.proofs.Common.{◌≡◌, ◌∙◌, sym, ap, subst, refl, ℕ, zero, suc, ◌<◌, ◌≤◌, ◌↔◌, Bool, true, false, cond, List, [], ◌∷◌, length, get_or, map, filter, filter_map, All, Contains, IsPermutation, IsUtf8, arith}
+use Rattle.std.proofs.Common.{◌≡◌, ◌∙◌, sym, ap, subst, refl, ℕ, zero, suc, ◌≤◌, Bool, true, false, cond, List, [], ◌∷◌, length, get_or, map, filter, filter_map, All, Contains, IsPermutation, arith}
 use Rattle.std.proofs.lemmas.List.{length-map}
 use Rattle.std.proofs.lemmas.List.Elements.{All-head, All-map, All-tail, All-weaker, Contains-get_or}
 use Rattle.std.proofs.lemmas.List.Folds.{flat_map-map}

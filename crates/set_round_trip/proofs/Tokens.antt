@@ -1,6 +1,6 @@
 -- What the tokens of a source say can be written and read: identifiers are names, numbers are below 2 ^ 64, and strings
 -- are UTF-8. There are no more tokens than bytes.
-use Rattle.std.proofs.Common.{◌≡◌, ◌≢◌, ◌∙◌, sym, ap, subst, ℕ, ◌+◌, ◌<◌, ◌≤◌, ◌^◌, List, [], ◌∷◌, length, map, take, drop, flat_map, Option, None, Some, IsTrue, IsUtf8, arith}
+use Rattle.std.proofs.Common.{◌≢◌, ◌∙◌, sym, ap, subst, ℕ, ◌+◌, ◌<◌, ◌≤◌, ◌^◌, List, [], ◌∷◌, length, map, take, drop, flat_map, Option, None, Some, IsTrue, IsUtf8, arith}
 use Rattle.std.proofs.lemmas.Bool.{false≢true}
 use Rattle.std.specs.List.{AllByRecursion}
 use Rattle.proto_base.specs.Limits.{limit_of}
