@@ -132,16 +132,10 @@ made_small : (b : Bool) (made : ℕ) → made < 2 ^ 64 → IfSome (cond b (Some 
 made_small true made small = small
 made_small false made small = tt
 
-by_word : (b : Bool) (x y z : Tree) (d : Declarator)
-    → TreeFits (cond b (Left (Pair x (Pair y (declarator_tree d)))) (Right (Right (Pair z (declarator_tree d)))))
-    → TreeFits (declarator_tree d)
-by_word true x y z d all = all.1.1
-by_word false x y z d all = all.1
-
 -- the end of a field as a statement, whichever rule has it
 declarator_fits : (label : Option Label) (t : FieldType) (d : Declarator) → TreeFits (field_statement_tree label t d)
     → TreeFits (declarator_tree d)
-declarator_fits label t d all = grind (arith, by_word)
+declarator_fits label t d all = grind arith
 
 module _ (room : ℕ) (some : 0 < room) where
   described_fits : (d : Declarator) (label : FieldLabel) (kind : FieldKind) (oneof : Option ℕ) (is_optional : Bool)
