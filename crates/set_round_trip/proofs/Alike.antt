@@ -1,20 +1,17 @@
 -- What the set of sources is read as, asked in any way.
-use Rattle.std.proofs.Common.{◌≡◌, ◌∙◌, sym, ap, refl, ℕ, ◌+◌, ◌<◌, ◌≤◌, ◌↔◌, List, [], ◌∷◌, length, map, filter, cond, Bool, Contains, IsPermutation, sum_by, subst, arith}
+use Rattle.std.proofs.Common.{◌≡◌, ◌∙◌, sym, ap, refl, ℕ, ◌+◌, ◌≤◌, List, [], ◌∷◌, length, map, filter, cond, Bool, IsPermutation, sum_by, subst, arith}
 use Rattle.std.proofs.lemmas.List.Sorted.{Contains-permutation, IsPermutation-map, IsPermutation-sym, IsPermutation-trans, sum_by-IsPermutation}
 use Rattle.std.proofs.lemmas.List.Sums.{sum_by-cons}
 use Rattle.std.specs.List.{AllZip}
 use Rattle.proto_base.specs.declared.limits.Limits.{Limits}
 use Rattle.proto_compilation.specs.Compilation.{Compilation, CompiledFile, set_of}
 use Rattle.proto_compile.proofs.Alike.{described_count}
-use Rattle.proto_compile.proofs.Making.{sound}
-use Rattle.proto_compile.proofs.OneTyping.{resolved_names}
 use Rattle.proto_compile.specs.Analysed.{AreTypedFrom}
 use Rattle.proto_compile.specs.Compiled.{IsCompiled}
 use Rattle.proto_compile.specs.Descriptions.{SourceDescribes}
 use Rattle.proto_compile.specs.Sources.{name_of, text_of}
 use Rattle.proto_compile.specs.declared.source.Source.{Source}
 use Rattle.proto_desc.specs.declared.file.FileDesc.{FileDesc}
-use Rattle.proto_links.proofs.Whole.{whole_of}
 use Rattle.proto_links.specs.Linked.{Linked}
 use Rattle.proto_names.specs.Index.{Index, is_service_kind, services_of}
 use Rattle.proto_names.specs.Index as index_names
@@ -24,10 +21,11 @@ use Rattle.proto_sets.specs.Sets.{Contents, FileSays, IsOfSet, SaysFile, depth_o
 use Rattle.proto_types.specs.Typed.{IsTypedFile}
 use Rattle.wire_bytes.specs.Descriptor.{file_desc_bytes}
 use Rattle.set_round_trip.specs.ButPlaces.{AreAlikeButPlaces, at_start}
+use Rattle.set_round_trip.proofs.CompiledFiles.{files_are, files_read}
 use Rattle.set_round_trip.proofs.FileContents.{Agree, agree, all_names, heads_agree, no_extensions, placed_packages}
 use Rattle.set_round_trip.proofs.Imports.{import_marks}
 use Rattle.set_round_trip.proofs.Packages.{HasNamedPackage, named_package}
-use Rattle.set_round_trip.proofs.SameFiles.{IsFileOf, files_of, same_files}
+use Rattle.set_round_trip.proofs.SameFiles.{IsFileOf}
 use Rattle.set_round_trip.proofs.SameLinks.{linked_on, same_order, same_reach, same_size}
 use Rattle.set_round_trip.proofs.Saying.{as_said}
 use Rattle.set_round_trip.proofs.Typing.{declares_same}
@@ -131,13 +129,8 @@ alike limits sources c d first second =
     let count = described_count limits sources c first in
     let linked = r.analysed.linked in
     let indexed = r.analysed.indexed in
-    let are = files_of c.files w.descs (w.names ∙ sym (resolved_names r)) w.bytes in
-    let every : (a : ℕ) → Contains c.links.set_order a ↔ (a < length c.files) = λ a. (
-    let is = (whole_of r.descs c.links linked).every a in
-    (λ has. omega (arith, is.0 has, linked.count, count), λ below. is.1 (omega (arith, below, linked.count, count)))) in
-    let rises = (sound limits sources c first).coherent.rises in
-    let files = same_files limits c.files w.descs are rises c.links every d.files
-    second.says.by_name in
+    let are = files_are limits sources c first in
+    let files = files_read limits sources c first limits d.files second.says.by_name in
     let says = subst (λ fs. AllZip (FileSays (depth_of limits)) fs second.contents) (sym files) second.says.each in
     let agreed = all_agree limits (depth_of limits) c.links c.index 0 w.sorted r.descs w.descs c.files second.contents
     r.analysed.described.each r.each are says in

@@ -1,9 +1,12 @@
 mod Alike
+mod CompiledFiles
+mod Described
 mod Entries
 mod FileContents
 mod Fitting
 mod Fronts
 mod Imports
+mod Named
 mod Ordered
 mod Packages
 mod Reading
@@ -14,6 +17,9 @@ mod SameLinks
 mod Saying
 mod ShortNames
 mod Speaking
+mod Texts
+mod Tokens
 mod Twice
+mod TypedFits
 mod Typing
 mod Written

@@ -1,7 +1,7 @@
--- The set of sources is read, where each of its files is by itself.
-use Rattle.std.proofs.Common.{◌≡◌, ◌∙◌, sym, ap, subst, refl, ℕ, zero, suc, ◌<◌, ◌≤◌, ◌↔◌, Bool, true, false, cond, List, [], ◌∷◌, length, get_or, map, filter, filter_map, All, Contains, IsPermutation, IsUtf8, arith}
+-- The set of sources is read, where each of its files is by itself and the limits of the reader are no lower.
+use Rattle.std.proofs.Common.{◌≡◌, ◌∙◌, sym, ap, subst, refl, ℕ, zero, suc, ◌≤◌, Bool, true, false, cond, List, [], ◌∷◌, length, get_or, map, filter, filter_map, All, Contains, IsPermutation, arith}
 use Rattle.std.proofs.lemmas.List.{length-map}
-use Rattle.std.proofs.lemmas.List.Elements.{All-head, All-map, All-tail, Contains-get_or}
+use Rattle.std.proofs.lemmas.List.Elements.{All-head, All-map, All-tail, All-weaker, Contains-get_or}
 use Rattle.std.proofs.lemmas.List.Folds.{flat_map-map}
 use Rattle.std.proofs.lemmas.List.Sorted.{All-permutation, IsPermutation-map, IsPermutation-sym, IsPermutation-trans, length_permutation}
 use Rattle.std.specs.List.{AllZip}
@@ -11,7 +11,6 @@ use Rattle.proto_base.specs.declared.limits.Limits.{Limits}
 use Rattle.proto_compilation.specs.Compilation.{Compilation, CompiledFile, bytes_at, file_bytes, set_of}
 use Rattle.proto_compile.proofs.Alike.{described_count}
 use Rattle.proto_compile.proofs.Making.{sound}
-use Rattle.proto_compile.proofs.OneTyping.{resolved_names}
 use Rattle.proto_compile.specs.Compiled.{IsCompiled, IsShort}
 use Rattle.proto_compile.specs.declared.source.Source.{Source}
 use Rattle.proto_desc.specs.declared.file.FileDesc.{FileDesc}
@@ -25,32 +24,40 @@ use Rattle.proto_names.specs.Occurrences.{Occurrence, occurrences}
 use Rattle.proto_sets.specs.Elements.{text_in, text_of}
 use Rattle.proto_sets.specs.Extensions.{AreTabled}
 use Rattle.proto_sets.specs.Says.{ExtensionAt}
-use Rattle.proto_sets.specs.Sets.{AreByName, Contents, FileSays, IsNamedFile, IsOfSet, IsShortName, depth_of, extensions_from, head_of, names_from}
+use Rattle.proto_sets.specs.Sets.{AreByName, Contents, FileSays, IsNamedFile, IsOfSet, IsShortName, SaysFile, depth_of, extensions_from, head_of, names_from}
 use Rattle.share_work.proofs.Sums.{of_map}
 use Rattle.wire_format.proofs.ReadingRows.{written_row}
 use Rattle.wire_format.specs.Reading.{IsRow}
 use Rattle.wire_format.specs.Writing.{IsMessageField, entry_bytes}
 use Rattle.set_round_trip.specs.ButPlaces.{at_start, index_at_start}
-use Rattle.set_round_trip.specs.Readable.{IsReadable}
+use Rattle.set_round_trip.specs.Fits.{IsName}
+use Rattle.set_round_trip.specs.Readable.{AreNoLower}
 use Rattle.set_round_trip.proofs.Alike.{all_agree}
+use Rattle.set_round_trip.proofs.CompiledFiles.{every_file, files_are}
 use Rattle.set_round_trip.proofs.Entries.{each_text, file_name_is, read_file}
 use Rattle.set_round_trip.proofs.FileContents.{all_names, heads_agree, names_start, no_extensions}
 use Rattle.set_round_trip.proofs.Fronts.{entry, read_all}
 use Rattle.set_round_trip.proofs.Ordered.{all_bytes, all_files, file_at, no_file}
-use Rattle.set_round_trip.proofs.SameFiles.{IsFileOf, files_of, of_file}
+use Rattle.set_round_trip.proofs.SameFiles.{IsFileOf, of_file}
 use Rattle.set_round_trip.proofs.SameLinks.{linked_on}
 use Rattle.set_round_trip.proofs.ShortNames.{files_short}
 use Rattle.set_round_trip.proofs.Twice.{once_moved}
 
 -- ---- what the files say
 
-contents_of : (limits : Limits) (files : List CompiledFile)
-    → ((f : CompiledFile) → Contains files f → IsReadable limits f)
-    → (cs : List Contents) × AllZip (FileSays (depth_of limits)) files cs
-contents_of limits [] each = ([], tt)
-contents_of limits (f ∷ files) each =
+-- a file has a name, and its bytes say something, with elements within one another no deeper than the reader takes
+pub record IsReadable (reader : Limits) (file : CompiledFile) : Type 0 where
+  pub name : IsName file.name
+  pub contents : Contents
+  pub says : SaysFile (depth_of reader) file.bytes contents
+
+contents_of : (reader : Limits) (files : List CompiledFile)
+    → ((f : CompiledFile) → Contains files f → IsReadable reader f)
+    → (cs : List Contents) × AllZip (FileSays (depth_of reader)) files cs
+contents_of reader [] each = ([], tt)
+contents_of reader (f ∷ files) each =
     let is = each f (front f files) in
-    let (cs, all) = contents_of limits files (λ g has. each g (behind f files g has)) in
+    let (cs, all) = contents_of reader files (λ g has. each g (behind f files g has)) in
     (is.contents ∷ cs, (is.says, all))
 
 -- ---- the bytes of the set
@@ -81,9 +88,9 @@ set_row limits files links short =
 
 -- ---- its files
 
-named_file : (limits : Limits) (f : CompiledFile) (desc : FileDesc) → IsFileOf f desc → IsReadable limits f
+named_file : (reader : Limits) (f : CompiledFile) (desc : FileDesc) → IsFileOf f desc → IsReadable reader f
     → IsNamedFile f
-named_file limits f desc are is =
+named_file reader f desc are is =
     let fields = read_all (read_file desc) (subst (λ t. IsRow t is.says.fields) are.bytes is.says.row) in
     let name : f.name ≡ text_of 1 is.says.fields =
     are.name ∙ sym (file_name_is desc) ∙ ap (text_of 1) (sym fields) in
@@ -92,9 +99,9 @@ named_file limits f desc are is =
         fields = is.says.fields;
         row = is.says.row;
         is = name;
-        utf8 = subst IsUtf8 (sym name) is.says.of_head.name_utf8;
+        utf8 = is.name.utf8;
       };
-      named = is.named;
+      named = is.name.some;
     }
 
 -- ---- its index
@@ -132,21 +139,15 @@ none_tabled es none = record {
 
 -- ---- the set
 
-module _ (limits : Limits) (sources : List Source) (c : Compilation) (first : IsCompiled limits sources c)
-    (each : (f : CompiledFile) → Contains c.files f → IsReadable limits f) where
-  by_name : AreByName limits (set_of c.files c.links) c.files
+module _ (limits reader : Limits) (no_lower : AreNoLower reader limits) (sources : List Source) (c : Compilation)
+    (first : IsCompiled limits sources c) (each : (f : CompiledFile) → Contains c.files f → IsReadable reader f) where
+  by_name : AreByName reader (set_of c.files c.links) c.files
   by_name =
       let w = first.written in
-      let r = w.resolved in
-      let linked = r.analysed.linked in
-      let count = described_count limits sources c first in
-      let are = files_of c.files w.descs (w.names ∙ sym (resolved_names r)) w.bytes in
+      let linked = w.resolved.analysed.linked in
+      let are = files_are limits sources c first in
       let order = c.links.set_order in
-      let whole = whole_of r.descs c.links linked in
-      let every : (a : ℕ) → Contains order a ↔ (a < length c.files) = λ a. (
-        λ has. omega (arith, (whole.every a).0 has, linked.count, count),
-        λ below. (whole.every a).1 (omega (arith, below, linked.count, count)),
-      ) in
+      let every = every_file limits sources c first in
       let coherent = (sound limits sources c first).coherent in
       let placed = map (file_at c.files) order in
       let fields = map (entry 1 (bytes_at c.files)) order in
@@ -158,20 +159,21 @@ module _ (limits : Limits) (sources : List Source) (c : Compilation) (first : Is
       let f = file_at c.files a in
       let has = Contains-get_or c.files a no_file ((every a).0 (Contains-get_or order k d below)) in
       let (desc, is) = of_file c.files w.descs are f has in
-      named_file limits f desc is (each f has))) in
+      named_file reader f desc is (each f has))) in
       record {
         placed = placed;
         are = record {
-          short = first.within;
+          short = omega (arith, first.within, no_lower.set_bytes);
           texts = (fields, row, texts);
           few = omega (
             arith,
             length-map order (file_at c.files),
-            whole.size,
+            (whole_of w.resolved.descs c.links linked).size,
             linked.count,
-            count,
+            described_count limits sources c first,
             coherent.few,
             ap (λ (l : Limits). limit_of l limit.Files) w.same_limits,
+            no_lower.files,
           );
           each = named;
         };
@@ -180,15 +182,15 @@ module _ (limits : Limits) (sources : List Source) (c : Compilation) (first : Is
         rises = coherent.rises;
       }
 
-  pub read : (d : Compilation) × IsOfSet limits (set_of c.files c.links) d
+  pub read : (d : Compilation) × IsOfSet reader (set_of c.files c.links) d
   read =
       let w = first.written in
       let r = w.resolved in
       let indexed = r.analysed.indexed in
       let count = described_count limits sources c first in
-      let are = files_of c.files w.descs (w.names ∙ sym (resolved_names r)) w.bytes in
-      let (contents, says) = contents_of limits c.files each in
-      let agreed = all_agree limits (depth_of limits) c.links c.index 0 w.sorted r.descs w.descs c.files contents
+      let are = files_are limits sources c first in
+      let (contents, says) = contents_of reader c.files each in
+      let agreed = all_agree limits (depth_of reader) c.links c.index 0 w.sorted r.descs w.descs c.files contents
       r.analysed.described.each r.each are says in
       let (names, imports) = heads_agree r.descs contents agreed in
       let said = names_from 0 contents in
@@ -196,16 +198,18 @@ module _ (limits : Limits) (sources : List Source) (c : Compilation) (first : Is
       let moved = all_names 0 r.descs contents agreed in
       let placed : IsPermutation said (map at_start all) =
       subst (λ os. IsPermutation os (map at_start all)) (names_start 0 r.descs contents agreed) moved in
-      let short : All (IsShortName limits) said = All-permutation (IsShortName limits) (map at_start all) said
-      (IsPermutation-sym said (map at_start all) placed) (All-map (IsShortName limits) at_start all
-      (files_short limits 0 w.sorted r.descs r.analysed.described.each)) in
-      let index : IndexesNames (length c.files) said limits (index_at_start c.index) = record {
+      let short : All (IsShortName reader) said = All-permutation (IsShortName reader) (map at_start all) said
+      (IsPermutation-sym said (map at_start all) placed) (All-map (IsShortName reader) at_start all
+      (All-weaker (IsShortName limits) (IsShortName reader) (λ o few. omega (arith, few, no_lower.full_name_bytes))
+      all (files_short limits 0 w.sorted r.descs r.analysed.described.each))) in
+      let index : IndexesNames (length c.files) said reader (index_at_start c.index) = record {
         files = indexed.files ∙ sym count;
         within = omega (
           arith,
           indexed.within,
           length_permutation said (map at_start all) placed,
           length-map all at_start,
+          no_lower.names,
         );
         once = once_moved all said moved indexed.once;
         all = IsPermutation-trans said (map at_start all) (map at_start c.index.occurrences) placed
@@ -217,7 +221,7 @@ module _ (limits : Limits) (sources : List Source) (c : Compilation) (first : Is
           links = c.links;
           index = index_at_start c.index;
           extensions = [];
-          limits = limits;
+          limits = reader;
         },
         record {
           contents = contents;

@@ -1,6 +1,6 @@
--- Descriptors that can be read where they are written: names are UTF-8, numbers are below 2 ^ 64, and no more elements than
--- there is room for stand within one another, each element itself among them.
-use Rattle.std.specs.Prelude.{◌≢◌, ℕ, zero, suc, ◌<◌, ◌^◌, [], IfSome, IsUtf8}
+-- Descriptors that can be read where they are written: names are UTF-8, numbers are below 2 ^ 64, and no more elements
+-- than there is room for stand within one another, each element itself among them.
+use Rattle.std.specs.Prelude.{◌≢◌, ℕ, zero, suc, ◌<◌, ◌^◌, List, [], IfSome, IsUtf8}
 use Rattle.std.specs.List.{AllByRecursion}
 use Rattle.proto_desc.specs.DeclaredNames.{file_scope}
 use Rattle.proto_desc.specs.declared.enumeration.EnumDesc.{EnumDesc}
@@ -14,6 +14,11 @@ use Rattle.proto_desc.specs.declared.oneof.OneofDesc.{OneofDesc}
 use Rattle.proto_desc.specs.declared.service.MethodDesc.{MethodDesc}
 use Rattle.proto_desc.specs.declared.service.ServiceDesc.{ServiceDesc}
 use Rattle.wire_bytes.specs.Descriptor.{low_bits}
+
+-- a text that is not empty
+pub record IsName (text : List ℕ) : Type 0 where
+  pub some : text ≢ []
+  pub utf8 : IsUtf8 text
 
 pub record FieldFits (room : ℕ) (f : FieldDesc) : Type 0 where
   pub some : 0 < room
@@ -67,8 +72,7 @@ ImportFits i = IsUtf8 i.path
 
 -- a file, which has a name
 pub record FileFits (depth : ℕ) (f : FileDesc) : Type 0 where
-  pub named : f.name ≢ []
-  pub name : IsUtf8 f.name
+  pub name : IsName f.name
   pub own : IsUtf8 (file_scope f.«package»)
   pub imports : AllByRecursion ImportFits f.imports
   pub messages : AllByRecursion (MessageFits depth) f.messages

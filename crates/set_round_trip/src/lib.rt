@@ -4,5 +4,6 @@
 mod laws;
 
 pub use laws::{
-    answers_stay, descriptors_are_read, written_sets_are_read, written_sets_are_read_alike,
+    answers_stay, descriptors_are_read, descriptors_fit, written_sets_are_read,
+    written_sets_are_read_alike,
 };
