@@ -6,6 +6,8 @@
 mod line;
 mod response;
 mod service;
+mod serving;
 
-pub use http_connection::ServeOptions;
-pub use service::{serve, serve_with};
+pub use http_connection::{Bound, ServeOptions};
+pub use service::{EndedService, ReflectionService};
+pub use serving::{serve, serve_with};

@@ -1,97 +1,85 @@
-//! Serving connections.
+//! A service of reflection: what is served, and what has been.
 
-ghost use Rattle.std.specs.Prelude.{◌≡◌, IfOk, Some};
-ghost use Rattle.std.specs.Thread.{IsSync};
+ghost use Rattle.std.specs.Prelude.{◌≡◌, IfOk};
+ghost use Rattle.grpcweb_service.specs.Services.{GivesAnswersOf, HasServed};
 
-use crate::response::answered;
 use grpcweb_core::Mode;
-use http::Request;
-use http_connection::{Answered, Journal, NoJournal, ServeFault, ServeOptions, serve_connections};
+use http_connection::{Bound, Journal, Responder, ServeOptions, ServeTrouble, serve_connections};
 use proto_base::Limit;
 use proto_compilation::Compiled;
-use share_work::{Gate, Plan};
+use share_work::Plan;
 use std::alloc::{AllocError, AllocGlobal};
+use std::net::SocketAddr;
 use std::random::RandomSource;
+use std::snapshot::Snapshot;
 use std::sync::{Arc, Wait};
 use std::thread::Threads;
 use std::time::Clock;
-use tokio::net::TcpListener;
 use tokio::runtime::Runtime;
 
-/// Serves reflection streams over HTTP/1.1, as many clients at once as the options say, and answers how many connections there
-/// were. Without a count of connections it ends only with a fault.
-///
-/// A connection carries one request, whose body is read to its end or to one byte over the limit, and is closed behind the
-/// answer (`respond`). A fault of a connection, the end of its client's time, or want of memory in its answer, ends that
-/// connection alone. Requests are answered one after the other.
-///
-/// The journal is told of each connection that has ended, with a line on its request: the method, the path, the status, that of
-/// gRPC, the bytes of the body, the requests in it, the bytes of the response, and how long the answer took.
-pub fn serve_with<R, G, J>(
-    rt: &R,
-    runtime: &mut Runtime,
-    listener: TcpListener,
-    compiled: Arc<Compiled>,
-    plan: Plan,
-    gate: G,
-    mode: Mode,
-    options: ServeOptions,
-    connections: Option<u64>,
-    journal: J,
-) -> Result<u64, ServeFault>
-where
-    R: Wait + Threads + Clock + RandomSource + AllocGlobal + Sync + Clone + Drop,
-    G: Gate + Copy + Sync,
-    J: Journal,
-    ensures { IfOk result (λ count. connections ≡ Some count) }
-{
-    let is_noted = journal.is_kept();
-    let most = compiled.limits().read_bound(Limit::BodyBytes) as usize;
-    let own_rt = rt.clone()?;
-    let responder = move |request: &Request<Vec<u8>>| -> Result<Answered, AllocError>
-        requires { IsSync R.row × IsSync G.row }
-    { answered(&own_rt, &compiled, plan, &gate, mode, is_noted, request) };
-    let responder = Arc::new(rt.alloc(), responder).map_err(|_| ServeFault::NoMemory)?;
-    serve_connections(
-        rt,
-        runtime,
-        listener,
-        responder,
-        most,
-        options,
-        connections,
-        journal,
-    )
+/// What is served, and to how many.
+#[derive(Drop)]
+pub struct ReflectionService {
+    pub compiled: Arc<Compiled>,
+    pub mode: Mode,
+    /// How workers share the requests of a body. It changes no answer.
+    pub plan: Plan,
+    pub options: ServeOptions,
+    /// With how many connections it ends. Without a count it ends only with a fault.
+    pub connections: Option<u64>,
 }
 
-/// Serves as `serve_with` does, with no journal, one client after the other, each for as long as it likes. A client that sends nothing holds the
-/// service.
-pub fn serve<R, G>(
+/// A service that has ended: how it ended and, for contracts, what it was and at which address. It is made by serving alone, so who
+/// hands one out has served.
+#[derive(Drop)]
+pub struct EndedService {
+    service: Snapshot<ReflectionService>,
+    address: SocketAddr,
+    end: Result<u64, ServeTrouble>,
+}
+
+impl EndedService {
+    /// How many connections there were, or why it ended.
+    pub fn into_end(self) -> Result<u64, ServeTrouble>
+        ensures { result ≡ self.end }
+    {
+        self.end
+    }
+}
+
+/// Serves by a responder that gives the answers of a service.
+pub(crate) fn serve_by<R, T, J>(
     rt: &R,
     runtime: &mut Runtime,
-    listener: TcpListener,
-    compiled: Arc<Compiled>,
-    plan: Plan,
-    gate: G,
-    mode: Mode,
-    connections: Option<u64>,
-) -> Result<u64, ServeFault>
+    bound: Bound,
+    service: &ReflectionService,
+    responder: T,
+    journal: J,
+) -> Result<EndedService, AllocError>
 where
-    R: Wait + Threads + Clock + RandomSource + AllocGlobal + Sync + Clone + Drop,
-    G: Gate + Copy + Sync,
-    ensures { IfOk result (λ count. connections ≡ Some count) }
+    R: Wait + Threads + Clock + RandomSource + AllocGlobal + Sync,
+    T: Responder,
+    J: Journal,
+    requires ready { T.can_respond responder }
+    requires answers { GivesAnswersOf service.now (T.responds responder) }
+    ensures { IfOk result (HasServed service.now bound.address) }
 {
-    let options = ServeOptions::default();
-    serve_with(
+    let responder = Arc::new(rt.alloc(), responder)?;
+    let most = service.compiled.limits().read_bound(Limit::BodyBytes) as usize;
+    let address = bound.address();
+    let end = serve_connections(
         rt,
         runtime,
-        listener,
-        compiled,
-        plan,
-        gate,
-        mode,
-        options,
-        connections,
-        NoJournal,
-    )
+        bound,
+        responder,
+        most,
+        service.options,
+        service.connections,
+        journal,
+    );
+    Ok(EndedService {
+        service: Snapshot::of(service),
+        address,
+        end,
+    })
 }

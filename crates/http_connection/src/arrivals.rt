@@ -7,8 +7,8 @@ ghost use Rattle.tokio.specs.Net.{listener_readable};
 use crate::limited::Limited;
 use crate::noted::{Noted, Notes};
 use crate::responder::Responder;
-use crate::serve_fault::ServeFault;
 use crate::service::ResponderService;
+use crate::trouble::ServeTrouble;
 use bytes::Bytes;
 use futures::task::{Context, Poll};
 use futures::{Future, Stream, ready};
@@ -47,7 +47,7 @@ where
     T: Responder,
 {
     /// A connection that begins now.
-    fn connection(&self, socket: TcpStream) -> Result<ClientConnection<T>, ServeFault>
+    fn connection(&self, socket: TcpStream) -> Result<ClientConnection<T>, ServeTrouble>
         requires { T.can_respond (arc_value self.now.responder) }
         ensures { IfOk result (λ c. ⟦<ClientConnection<T> as Future>⟧.can_poll c) }
     {
@@ -72,7 +72,7 @@ where
     R: Clock + AllocGlobal,
     T: Responder,
 {
-    type Item = Result<ClientConnection<T>, ServeFault>;
+    type Item = Result<ClientConnection<T>, ServeTrouble>;
 
     ghost can_poll = { λ a. T.can_respond (arc_value a.responder) };
 
@@ -84,7 +84,7 @@ where
     fn poll_next(
         &mut self,
         cx: &mut Context<'_>,
-    ) -> Poll<Option<Result<ClientConnection<T>, ServeFault>>> {
+    ) -> Poll<Option<Result<ClientConnection<T>, ServeTrouble>>> {
         match ready!(self.listener.poll_accept(cx)) {
             Ok((socket, _)) => Poll::Ready(Some(self.connection(socket))),
             Err(error) => Poll::Ready(Some(Err(error.into()))),

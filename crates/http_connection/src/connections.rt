@@ -3,10 +3,11 @@
 ghost use Rattle.std.specs.Prelude.{◌≡◌, ◌<◌, ◌⊎◌, ◌↔◌, IsTrue, IfOk, Some, false};
 ghost use Rattle.futures.specs.Queued.{IsEmptySet, set_len};
 ghost use Rattle.futures.specs.Task.{Covers, Keeps};
-ghost use Rattle.http_connection.specs.Connections.{CanServe, IsListening, running_source};
+ghost use Rattle.http_connection.specs.Connections.{CanServe, HaveCome, IsListening, IsStillServing, next_count, running_source};
 
 use crate::journal::{End, Ended, Journal, Progress};
 use crate::serve_fault::ServeFault;
+use crate::trouble::ServeTrouble;
 use futures::stream::FuturesUnordered;
 use futures::task::{Context, Poll};
 use futures::{Future, Stream, ready};
@@ -36,7 +37,7 @@ pub(crate) struct Connections<S, F, J> {
 
 impl<S, F, J> Connections<S, F, J>
 where
-    S: Stream<Item = Result<F, ServeFault>>,
+    S: Stream<Item = Result<F, ServeTrouble>>,
     F: Future<Output = Ended>,
     J: Journal,
 {
@@ -71,7 +72,7 @@ where
     fn poll_running(&mut self, cx: &mut Context<'_>) -> bool
         requires { CanServe S.can_poll S.yields F.can_poll self.old }
         ensures again { CanServe S.can_poll S.yields F.can_poll self.new }
-        ensures total { self.new.total ≡ self.old.total }
+        ensures same { IsStillServing self.old self.old.begun self.new }
         ensures registered { result ≡ false
             → ((set_len self.new.running ≡ 0) × (self.new.is_refused ≡ false))
             ⊎ Covers cx.new (running_source self.new) }
@@ -97,7 +98,7 @@ where
         requires can_serve { CanServe S.can_poll S.yields F.can_poll self.old }
         requires can_poll { F.can_poll connection }
         ensures again { CanServe S.can_poll S.yields F.can_poll self.new }
-        ensures total { self.new.total ≡ self.old.total }
+        ensures counted { IsStillServing self.old (next_count self.old.begun) self.new }
     {
         self.begun = self.begun.saturating_add(1);
         if self.running.push(connection).is_err() {
@@ -111,20 +112,20 @@ where
 
 impl<S, F, J> Future for Connections<S, F, J>
 where
-    S: Stream<Item = Result<F, ServeFault>>,
+    S: Stream<Item = Result<F, ServeTrouble>>,
     F: Future<Output = Ended>,
     J: Journal,
 {
-    type Output = Result<u64, ServeFault>;
+    type Output = Result<u64, ServeTrouble>;
 
     ghost can_poll = { CanServe S.can_poll S.yields F.can_poll };
 
     ghost needs = { λ c s. ((0 < set_len c.running) × running_source c s)
         ⊎ (IsListening c × S.needs c.arrivals s) };
 
-    ghost gives = { λ c r. IfOk r (λ count. c.total ≡ Some count) };
+    ghost gives = { λ c r. IfOk r (λ count. (c.total ≡ Some count) × HaveCome S.yields c count) };
 
-    fn poll(&mut self, cx: &mut Context<'_>) -> Poll<Result<u64, ServeFault>> {
+    fn poll(&mut self, cx: &mut Context<'_>) -> Poll<Result<u64, ServeTrouble>> {
         for _ in 0..TURNS {
             if self.poll_running(cx) {
                 continue;
@@ -140,14 +141,14 @@ where
             }
             match ready!(self.arrivals.poll_next(cx)) {
                 Some(Ok(connection)) => self.begin(connection),
-                Some(Err(fault)) => {
+                Some(Err(trouble)) => {
                     if self.running.is_empty() {
-                        return Poll::Ready(Err(fault));
+                        return Poll::Ready(Err(trouble));
                     }
                     self.is_refused = true;
                     return Poll::Pending;
                 }
-                None => return Poll::Ready(Err(ServeFault::AcceptFault)),
+                None => return Poll::Ready(Err(ServeFault::AcceptFault.into())),
             }
         }
         cx.yield_now()

@@ -4,11 +4,12 @@ ghost use Rattle.std.specs.Prelude.{◌≡◌, IfOk, Some};
 ghost use Rattle.std.specs.Arc.{arc_value};
 
 use crate::arrivals::Arrivals;
+use crate::bound::Bound;
 use crate::connections::Connections;
 use crate::journal::Journal;
 use crate::options::ServeOptions;
 use crate::responder::Responder;
-use crate::serve_fault::ServeFault;
+use crate::trouble::ServeTrouble;
 use hyper::server::conn::http1;
 use std::alloc::AllocGlobal;
 use std::hash::RandomState;
@@ -16,7 +17,6 @@ use std::random::RandomSource;
 use std::sync::{Arc, Wait};
 use std::thread::Threads;
 use std::time::Clock;
-use tokio::net::TcpListener;
 use tokio::runtime::Runtime;
 
 /// Serves connections, as many at once as the options say, and gives how many there were. Without a count of connections it ends
@@ -31,13 +31,13 @@ use tokio::runtime::Runtime;
 pub fn serve_connections<R, T, J>(
     rt: &R,
     runtime: &mut Runtime,
-    listener: TcpListener,
+    bound: Bound,
     responder: Arc<T>,
     most: usize,
     options: ServeOptions,
     connections: Option<u64>,
     journal: J,
-) -> Result<u64, ServeFault>
+) -> Result<u64, ServeTrouble>
 where
     R: Wait + Threads + Clock + RandomSource + AllocGlobal + Sync,
     T: Responder,
@@ -45,6 +45,10 @@ where
     requires { T.can_respond (arc_value responder) }
     ensures { IfOk result (λ count. connections ≡ Some count) }
 {
+    let Bound {
+        listener,
+        address: _,
+    } = bound;
     let keys = RandomState::new(rt)?;
     let arrivals = Arrivals {
         rt,

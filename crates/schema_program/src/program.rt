@@ -3,18 +3,19 @@
 ghost use Rattle.std.specs.Prelude.{◌≡◌, ◌-◌, ◌<◌, ◌≤◌, ◌^◌};
 ghost use Rattle.std.specs.Result.{result_ok};
 ghost use Rattle.schema_failure.specs.Statuses.{status_after};
-ghost use Rattle.schema_program.specs.Performed.{IsAnswerFrom, IsEndOf, IsPerformed, IsRun, IsServeFrom, IsUsageRun, sound_of};
+ghost use Rattle.schema_program.specs.Performed.{AreOptionsOf, IsAnswerFrom, IsEndOf, IsPerformed, IsRun, IsServeFrom, IsServeTask, IsUsageRun, sound_of};
 
 use clap::Error;
 use clap::error::ErrorKind;
 use counted_io::{CountedRead, CountedWrite, write_bytes};
 use first_reach::Mode;
+use grpcweb_service::EndedService;
 use http_connection::ServeOptions;
 use schema_check::run_check;
 use schema_command_line::{Asked, Origin, Selection, Service, Task, Verbosity, asked_of};
 use schema_commands::{run_answer, run_answer_set, run_compile, run_describe, run_explain};
 use schema_failure::{Device, ExitStatus, Failure, Verdict, write_detail, write_failure};
-use schema_serve::{run_serve, run_serve_set};
+use schema_serve::{ServeTask, end_of_run, run_serve, run_serve_set};
 use schema_sources::SystemFolder;
 use share_work::Plan;
 use std::alloc::{AllocGlobal, Global};
@@ -51,7 +52,7 @@ fn sound(done: Result<(), Failure>) -> Result<Verdict, Failure>
 
 /// How many clients the words ask for at once, and how long each has. The parser of the words lets no other counts through.
 fn options_of(service: &Service) -> ServeOptions
-    ensures { 1 ≤ service.now.clients → service.now.clients ≤ 1024 → result.clients ≡ service.now.clients }
+    ensures { 1 ≤ service.now.clients → service.now.clients ≤ 1024 → AreOptionsOf service.now result }
 {
     let time = service
         .client_seconds
@@ -59,16 +60,27 @@ fn options_of(service: &Service) -> ServeOptions
     ServeOptions::new(service.clients, time).unwrap_or_default()
 }
 
+/// What the words ask to serve.
+fn serve_task<'a>(service: &Service<'a>, plan: Plan, mode: Mode) -> ServeTask<'a>
+    ensures { IsServeTask service.now plan mode result }
+{
+    ServeTask {
+        listen: service.listen,
+        mode,
+        plan,
+        options: options_of(service),
+        connections: service.connections,
+    }
+}
+
 /// Serves from sources, or from a set.
 fn serve_from<R, O, E>(
     rt: &R,
     origin: &Origin,
-    service: &Service,
-    plan: Plan,
-    mode: Mode,
+    task: &ServeTask,
     output: &mut O,
     log: Option<&mut E>,
-) -> Result<(), Failure>
+) -> Result<EndedService, Failure>
 where
     R: Wait + Threads + Files + Clock + RandomSource + AllocGlobal + Sync + Clone + Drop + Net,
     R::File: Sync,
@@ -76,38 +88,14 @@ where
     O: CountedWrite,
     E: Write,
     requires { (O.writes output.old).failures < 2 ^ 64 - 1 }
-    ensures { IsServeFrom origin.now service.now.listen.now service.now.connections
-        (O.writes output.old) (O.writes output.new) result }
+    ensures { IsServeFrom origin.now task.now (O.writes output.old) (O.writes output.new) result }
 {
-    let options = options_of(service);
-    let listen = service.listen;
-    let connections = service.connections;
     match origin {
         Origin::Sources(selection) => {
             let folder = folder_of(rt, selection);
-            run_serve(
-                rt,
-                &folder,
-                listen,
-                plan,
-                mode,
-                connections,
-                options,
-                output,
-                log,
-            )
+            run_serve(rt, &folder, task, output, log)
         }
-        Origin::Set(set) => run_serve_set(
-            rt,
-            set,
-            listen,
-            plan,
-            mode,
-            connections,
-            options,
-            output,
-            log,
-        ),
+        Origin::Set(set) => run_serve_set(rt, set, task, output, log),
     }
 }
 
@@ -178,7 +166,10 @@ where
             service,
             plan,
             mode,
-        } => sound(serve_from(rt, origin, service, *plan, *mode, output, log)),
+        } => {
+            let asked = serve_task(service, *plan, *mode);
+            sound(end_of_run(serve_from(rt, origin, &asked, output, log)))
+        }
         Task::Answer { origin, plan, mode } => {
             sound(answer_from(rt, origin, *plan, *mode, input, output))
         }

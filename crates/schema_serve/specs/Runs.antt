@@ -1,11 +1,17 @@
--- What a run of `serve` wrote, by how it ended. What goes by sockets is no part of it.
+-- What a run of `serve` wrote and served, by how it ended.
+use Rattle.std.specs.Arc.{arc_value}
 use Rattle.std.specs.Net.Text.{socket_text}
-use Rattle.std.specs.Prelude.{◌≡◌, ℕ, List, ◌++◌, ◌⊎◌, codes, Option, None, Result, Ok, Err, IsErrAnd}
+use Rattle.std.specs.Prelude.{◌≡◌, ℕ, List, ◌++◌, ◌⊎◌, codes, Option, Result, Ok, Err, IsErrAnd}
+use Rattle.std.specs.declared.io.Error.{Error}
 use Rattle.std.specs.declared.net.SocketAddr.{SocketAddr}
-use Rattle.http_connection.specs.declared.serve_fault.ServeFault.{ServeFault}
-use Rattle.http_connection.specs.declared.serve_fault.ServeFault.TheVariants as serve_fault
 use Rattle.counted_io.specs.Runs.{IsWritten, IsWrittenInPart}
 use Rattle.counted_io.specs.Streams.{Writes}
+use Rattle.grpcweb_service.specs.Services.{HasServed}
+use Rattle.grpcweb_service.specs.declared.service.EndedService.{EndedService}
+use Rattle.grpcweb_service.specs.declared.service.ReflectionService.{ReflectionService}
+use Rattle.http_connection.specs.declared.serve_fault.ServeFault.{ServeFault}
+use Rattle.http_connection.specs.declared.serve_fault.ServeFault.TheVariants as serve_fault
+use Rattle.http_connection.specs.declared.trouble.ServeTrouble.{ServeTrouble}
 use Rattle.proto_base.specs.declared.limits.Limits.{Limits}
 use Rattle.proto_compilation.specs.Compilation.{Compilation}
 use Rattle.schema_compile.specs.Compiled.{IsCompiledTo}
@@ -15,6 +21,7 @@ use Rattle.schema_failure.specs.declared.failure.Device.TheVariants as device
 use Rattle.schema_failure.specs.declared.failure.Failure.{Failure}
 use Rattle.schema_failure.specs.declared.failure.Failure.TheVariants as failure
 use Rattle.schema_serve.specs.Bound.{IsBoundBy}
+use Rattle.schema_serve.specs.declared.task.ServeTask.{ServeTask}
 use Rattle.schema_set.specs.Sets.{IsOfSomeSet, IsToldOfSet}
 use Rattle.schema_sources.specs.Texts.{AreStandard, KnownSources}
 
@@ -22,40 +29,63 @@ use Rattle.schema_sources.specs.Texts.{AreStandard, KnownSources}
 abbrev pub listening_line : SocketAddr → List ℕ
 listening_line address = codes "listening on " ++ (socket_text address ++ codes "\n")
 
--- the failure that the end of a service is
-abbrev pub of_service : ServeFault → Failure
-of_service serve_fault.AcceptFault = failure.Device device.Accept None
-of_service serve_fault.NoMemory = failure.NoMemory
+-- the failure that ends a service, with what the system said
+abbrev pub of_service_fault : ServeFault → Option Error → Failure
+of_service_fault serve_fault.AcceptFault error = failure.Device device.Accept error
+of_service_fault serve_fault.NoMemory error = failure.NoMemory
 
--- the service failed before the line, in it, or behind it
-pub data IsCutOff (listen : List ℕ) (writes writes' : Writes) (f : Failure) : Type 0 where
-  unheard : IsOfDevice device.Listen f ⊎ (f ≡ failure.NoMemory) → writes' ≡ writes → IsCutOff listen writes writes' f
-  unsaid : IsOfDevice device.Output f → (address : SocketAddr) → IsBoundBy listen address → (written : ℕ)
-      → IsWrittenInPart writes writes' (listening_line address) written → IsCutOff listen writes writes' f
-  ended : (fault : ServeFault) → f ≡ of_service fault → (address : SocketAddr) → IsBoundBy listen address
-      → IsWritten writes writes' (listening_line address) → IsCutOff listen writes writes' f
+abbrev pub of_service : ServeTrouble → Failure
+of_service trouble = of_service_fault trouble.fault trouble.error
 
--- a compilation is served: the line is written, once, and it comes to its end only where the connections are counted;
--- or the service failed
-abbrev pub IsService : {A : Type 0} → List ℕ → Option ℕ → Writes → Writes → Result A Failure → Type 0
-IsService listen connections writes writes' (Ok a) =
-    (connections ≡ None → ⊥)
-    × (address : SocketAddr) × IsBoundBy listen address × IsWritten writes writes' (listening_line address)
-IsService listen connections writes writes' (Err f) = IsCutOff listen writes writes' f
+-- how a run ended, and its service with it
+abbrev pub of_end : {A : Type 0} → Result A ServeTrouble → Result (Unit {0}) Failure
+of_end (Ok count) = Ok tt
+of_end (Err trouble) = Err (of_service trouble)
+
+abbrev pub end_of_run : Result EndedService Failure → Result (Unit {0}) Failure
+end_of_run (Ok ended) = of_end ended.end
+end_of_run (Err f) = Err f
+
+-- the service of a compilation that a task asks for
+pub record IsServiceOf (c : Compilation) (task : ServeTask) (service : ReflectionService) : Type 0 where
+  pub compilation : arc_value service.compiled ≡ c
+  pub mode : service.mode ≡ task.mode
+  pub options : service.options ≡ task.options
+  pub connections : service.connections ≡ task.connections
+
+-- the line was written, once, with the address at which the service of the compilation was then served
+abbrev pub IsServed : Compilation → ServeTask → Writes → Writes → EndedService → Type 0
+IsServed c task writes writes' ended =
+    (service : ReflectionService) × IsServiceOf c task service
+    × (address : SocketAddr) × IsBoundBy task.listen.now address × IsWritten writes writes' (listening_line address)
+    × HasServed service address ended
+
+-- it failed before the line, in it, or for want of memory behind it, before the first connection
+pub data IsCutOff (task : ServeTask) (writes writes' : Writes) (f : Failure) : Type 0 where
+  unheard : IsOfDevice device.Listen f ⊎ (f ≡ failure.NoMemory) → writes' ≡ writes → IsCutOff task writes writes' f
+  unsaid : IsOfDevice device.Output f → (address : SocketAddr) → IsBoundBy task.listen.now address → (written : ℕ)
+      → IsWrittenInPart writes writes' (listening_line address) written → IsCutOff task writes writes' f
+  unbegun : f ≡ failure.NoMemory → (address : SocketAddr) → IsBoundBy task.listen.now address
+      → IsWritten writes writes' (listening_line address) → IsCutOff task writes writes' f
+
+-- a compilation was served, as a task asks for it; or it was not
+abbrev pub IsService : Compilation → ServeTask → Writes → Writes → Result EndedService Failure → Type 0
+IsService c task writes writes' (Ok ended) = IsServed c task writes writes' ended
+IsService c task writes writes' (Err f) = IsCutOff task writes writes' f
 
 -- `serve` over a compilation of which this is so: it is there, and then it is served; or it is told why there is none,
 -- and nothing is written
-abbrev pub IsServeOver : {A : Type 0} → (Limits → Compilation → Type 0) → (Limits → Failure → Type 0) → List ℕ
-    → Option ℕ → Writes → Writes → Result A Failure → Type 0
-IsServeOver IsMade IsTold listen connections writes writes' done =
+abbrev pub IsServeOver : (Limits → Compilation → Type 0) → (Limits → Failure → Type 0) → ServeTask → Writes → Writes
+    → Result EndedService Failure → Type 0
+IsServeOver IsMade IsTold task writes writes' done =
     (limits : Limits) × AreStandard limits
     × (IsErrAnd done (λ f. IsTold limits f × (writes' ≡ writes))
-    ⊎ ((c : Compilation) × IsMade limits c × IsService listen connections writes writes' done))
+    ⊎ ((c : Compilation) × IsMade limits c × IsService c task writes writes' done))
 
 -- over what the folder's texts are compiled to, or their first fault
-abbrev pub IsServeRun : {A : Type 0} → KnownSources → List ℕ → Option ℕ → Writes → Writes → Result A Failure → Type 0
+abbrev pub IsServeRun : KnownSources → ServeTask → Writes → Writes → Result EndedService Failure → Type 0
 IsServeRun known = IsServeOver (λ limits c. IsCompiledTo limits known c) (λ limits f. IsToldOfFolder limits known f)
 
 -- over what the set at a path says, or its first fault
-abbrev pub IsSetServeRun : {A : Type 0} → List ℕ → List ℕ → Option ℕ → Writes → Writes → Result A Failure → Type 0
+abbrev pub IsSetServeRun : List ℕ → ServeTask → Writes → Writes → Result EndedService Failure → Type 0
 IsSetServeRun path = IsServeOver IsOfSomeSet (λ limits f. IsToldOfSet limits path f)

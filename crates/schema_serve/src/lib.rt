@@ -1,8 +1,10 @@
 //! The command `serve`: reflection over the sources of a folder, or over a set, by HTTP.
 #![tactic(auto)]
 
-mod bound;
+mod listening;
 mod log;
 mod serve;
+mod task;
 
-pub use serve::{run_serve, run_serve_set};
+pub use serve::{end_of_run, run_serve, run_serve_set};
+pub use task::ServeTask;

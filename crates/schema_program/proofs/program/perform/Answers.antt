@@ -1,6 +1,11 @@
+use Rattle.std.proofs.Common.{◌≡◌, Result}
+use Rattle.grpcweb_service.specs.declared.service.EndedService.{EndedService}
 use Rattle.schema_commands.specs.Runs.{IsCompileRun, IsDescribeRun, IsExplainRun}
+use Rattle.schema_failure.specs.declared.failure.Failure.{Failure}
 use Rattle.schema_program.proofs.Ending.{ends_sound}
-use Rattle.schema_program.specs.Performed.{IsAnswerFrom, IsServeFrom}
+use Rattle.schema_program.specs.Performed.{IsAnswerFrom, IsServeFrom, IsServeTask}
+use Rattle.schema_serve.specs.Runs.{end_of_run}
+use Rattle.schema_serve.specs.declared.task.ServeTask.{ServeTask}
 use Rattle.schema_sources.specs.Texts.{unknown}
 use Rattle.schema_program.proofs.program.perform.Goals as goal
 
@@ -37,10 +42,19 @@ returns-in-Describe g c =
 pub returns-in-Serve : goal.returns-in-Serve
 returns-in-Serve g c =
     let writes = g.O.CountedWrite.writes in
-    rw c.in-Serve.is
-    (ends_sound (λ done. IsServeFrom c.in-Serve.origin c.in-Serve.service.listen.now c.in-Serve.service.connections
-    (writes c.args.output.now) (writes c.serve_from.new.output) done)
-    c.serve_from.result c.sound-in-Serve.result c.sound-in-Serve.ensures c.serve_from.ensures)
+    let serve = c.in-Serve in
+    rw serve.is
+    (ends_sound (λ done. (asked : ServeTask) × IsServeTask serve.service serve.plan serve.mode asked
+    × (run : Result EndedService Failure)
+    × IsServeFrom serve.origin asked (writes c.args.output.now) (writes c.serve_from.new.output) run
+    × (done ≡ end_of_run run))
+    c.end_of_run.result c.sound-in-Serve.result c.sound-in-Serve.ensures (
+      c.serve_task-asked.result,
+      c.serve_task-asked.ensures,
+      c.serve_from.result,
+      c.serve_from.ensures,
+      c.end_of_run.ensures,
+    ))
 
 pub returns-in-Explain : goal.returns-in-Explain
 returns-in-Explain g c =
