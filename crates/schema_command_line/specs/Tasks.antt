@@ -33,10 +33,12 @@ pub record AreCustomOptions (found : Found) (o : CustomOptions) : Type 0 where
   pub skipped : one_text found (codes "skip-custom-options") ≡ Some (codes "true") → o ≡ options.Skip
   pub refused : one_text found (codes "skip-custom-options") ≡ Some (codes "false") → o ≡ options.Refuse
 
--- the root, the folders of --include, the named files and what is done about custom options are those of the words
+-- the root, the folders of --include and --exclude, the named files and what is done about custom options are those of
+-- the words
 pub record IsSelection (found : Found) (selection : Selection) : Type 0 where
   pub root : selection.root.now ≡ value_of found (codes "root")
   pub includes : map (λ s. s.now) selection.includes.items ≡ values_of found (codes "include")
+  pub excludes : map (λ s. s.now) selection.excludes.items ≡ values_of found (codes "exclude")
   pub files : map (λ s. s.now) selection.files.items ≡ values_of found (codes "files")
   pub custom_options : AreCustomOptions found selection.custom_options
 
@@ -83,9 +85,10 @@ pub record IsService (found : Found) (service : Service) : Type 0 where
 
 -- the task of the command of this name
 abbrev pub IsTaskNamed : List ℕ → Found → Task → Type 0
-IsTaskNamed name found (task.Compile selection plan file) =
+IsTaskNamed name found (task.Compile selection plan file dependencies) =
     (name ≡ codes "compile") × IsSelection found selection × IsPlan found plan
     × (option_map (λ s. s.now) file ≡ file_of (first_value found (codes "output")))
+    × (option_map (λ s. s.now) dependencies ≡ first_value found (codes "dependency_out"))
 IsTaskNamed name found (task.Check selection plan) =
     (name ≡ codes "check") × IsSelection found selection × IsPlan found plan
 IsTaskNamed name found (task.Serve from service plan m) =

@@ -21,7 +21,9 @@ pub struct Selection<'a> {
     pub root: &'a str,
     /// The folders in which an import is looked for that the root doesn't have, in their order.
     pub includes: Vec<&'a str>,
-    /// The sources that are named; none where all below the root are meant.
+    /// The folders below the root in which no source is looked for.
+    pub excludes: Vec<&'a str>,
+    /// The sources and the folders of sources that are named; none where all below the root are meant.
     pub files: Vec<&'a str>,
     pub custom_options: CustomOptions,
 }
@@ -57,6 +59,8 @@ pub enum Task<'a> {
         plan: Plan,
         /// The file that the set goes to; without one it goes to the output.
         file: Option<&'a str>,
+        /// The file that the rule goes to which says of what sources the set is made.
+        dependencies: Option<&'a str>,
     },
     /// Tell the faults of sources.
     Check {
@@ -162,6 +166,7 @@ fn selection_of<'a>(alloc: Global, matches: &ArgMatches<'a>) -> Result<Selection
     Ok(Selection {
         root: matches.get_str("root").unwrap_or(""),
         includes: values_of(alloc, matches, "include")?,
+        excludes: values_of(alloc, matches, "exclude")?,
         files: values_of(alloc, matches, "files")?,
         custom_options: custom_options_of(matches),
     })
@@ -263,6 +268,7 @@ fn task_named<'a>(
             selection: selection_of(alloc, matches)?,
             plan: plan_of(matches),
             file: file_in(matches),
+            dependencies: matches.get_str("dependency_out"),
         },
         "check" => Task::Check {
             selection: selection_of(alloc, matches)?,

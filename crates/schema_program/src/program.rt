@@ -13,7 +13,9 @@ use grpcweb_service::EndedService;
 use http_connection::ServeOptions;
 use schema_check::run_check;
 use schema_command_line::{Asked, Origin, Selection, Service, Task, Verbosity, asked_of};
-use schema_commands::{run_answer, run_answer_set, run_compile, run_describe, run_explain};
+use schema_commands::{
+    SetFiles, run_answer, run_answer_set, run_compile, run_describe, run_explain,
+};
 use schema_failure::{Device, ExitStatus, Failure, Verdict, write_detail, write_failure};
 use schema_serve::{ServeTask, end_of_run, run_serve, run_serve_set};
 use schema_sources::SystemFolder;
@@ -35,6 +37,7 @@ fn folder_of<'a, R>(rt: &'a R, selection: &'a Selection<'a>) -> SystemFolder<'a,
         rt,
         root: selection.root,
         includes: &selection.includes,
+        excludes: &selection.excludes,
         files: &selection.files,
         custom_options: selection.custom_options,
     }
@@ -153,9 +156,14 @@ where
             selection,
             plan,
             file,
+            dependencies,
         } => {
             let folder = folder_of(rt, selection);
-            sound(run_compile(rt, &folder, *plan, *file, output))
+            let files = SetFiles {
+                set: *file,
+                dependencies: *dependencies,
+            };
+            sound(run_compile(rt, &folder, selection.root, *plan, files, output))
         }
         Task::Check { selection, plan } => {
             let folder = folder_of(rt, selection);

@@ -1,7 +1,7 @@
 use Rattle.proto_compilation.proofs.Within.{ordered_within}
 use Rattle.schema_commands.proofs.Setting.{file_below}
 use Rattle.std.proofs.Common.{◌∙◌, ap, arith}
-use Rattle.schema_commands.proofs.set_writing.SetWriter.put.Goals as goal
+use Rattle.schema_commands.proofs.set_writing.SetWriter.put_files.Goals as goal
 
 pub bytes_at-bytes-requires : goal.bytes_at-bytes-requires
 bytes_at-bytes-requires g c =

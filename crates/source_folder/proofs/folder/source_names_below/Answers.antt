@@ -5,7 +5,7 @@ use Rattle.source_folder.specs.Ordered.{HaveTwins, path_of}
 use Rattle.proto_base.specs.NameOrder.{NamesRise}
 use Rattle.source_folder.proofs.Named.{as_many}
 use Rattle.source_folder.proofs.Neighbours.{rising}
-use Rattle.source_folder.proofs.folder.source_names.Goals as goal
+use Rattle.source_folder.proofs.folder.source_names_below.Goals as goal
 
 pub returns-clause-order : goal.returns-clause-order
 returns-clause-order g c =
