@@ -43,9 +43,9 @@ pub record AreOptionsOf (service : Service) (options : ServeOptions) : Type 0 wh
   pub client_time : option_map as_nanos options.client_time ≡ option_map (λ n. n * 1_000_000_000) service.client_seconds
 
 -- it is what the words ask to serve
-pub record IsServeTask (service : Service) (plan : Plan) (m : Mode) (asked : ServeTask) : Type 0 where
+pub record IsServeTask (service : Service) (p : Plan) (m : Mode) (asked : ServeTask) : Type 0 where
   pub listen : asked.listen.now ≡ service.listen.now
-  pub plan : asked.plan ≡ plan
+  pub plan : asked.plan ≡ p
   pub mode : asked.mode ≡ m
   pub options : 1 ≤ service.clients → service.clients ≤ 1024 → AreOptionsOf service asked.options
   pub connections : asked.connections ≡ service.connections
