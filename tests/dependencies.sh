@@ -18,12 +18,16 @@ wanted=$'set.pb: other/c.proto\\\n root/sub/b.proto\\\n root/a.proto'
 if has_protoc "no rule was compared with its"; then
     protoc -I root -I other --include_imports --descriptor_set_out=set.pb --dependency_out=protoc.d a.proto || fail 'protoc refuses it'
     cmp set.d protoc.d || fail "another rule than protoc's: $(<protoc.d)"
-    (cd "$OLDPWD" && protoc -I examples --include_imports --descriptor_set_out="$folder/all.pb" --dependency_out="$folder/protoc.d" $(find examples -name '*.proto') &&
-        "$program" compile --root examples --output "$folder/all.pb" --dependency_out "$folder/all.d") || fail 'examples'
-    for file in protoc.d all.d; do
-        tr -d '\\\n' <$file | tr ' ' '\n' | sort >$file.sorted
-    done
-    cmp protoc.d.sorted all.d.sorted || fail 'other sources than those of protoc'
+    # Of each example with what it imports; the order of files that do not import each other is free.
+    while IFS= read -r file; do
+        name=${file#"$OLDPWD/examples/"}
+        protoc -I "$OLDPWD/examples" --include_imports --descriptor_set_out=one.pb --dependency_out=protoc.d "$name" &&
+            "$program" compile --root "$OLDPWD/examples" "$name" --output one.pb --dependency_out one.d || fail "$name"
+        for rule in protoc.d one.d; do
+            tr -d '\\\n' <$rule | tr ' ' '\n' | sort >$rule.sorted
+        done
+        cmp protoc.d.sorted one.d.sorted || fail "$name: other sources than those of protoc"
+    done < <(find "$OLDPWD/examples" -name '*.proto')
 fi
 
 # Names that make and ninja read only escaped, and that make reads so.
