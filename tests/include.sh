@@ -62,7 +62,8 @@ compiles only --root protos own.proto
 compiles only --root protos --include first own.proto
 ends 1 'a.proto:1:27: ImportMissing' --root protos
 ends 1 'common/b.proto:1:43: ImportMissing' --root protos --include first
-ends 1 'a.proto:1:27: ImportMissing' --root protos --include none
+ends 3 'device: folder' --root protos --include none
+ends 3 'device: folder' --root protos --include protos/a.proto
 # The first folder that has a file counts: here it imports nothing, and has another message.
 ends 1 'a.proto:1:77: TypeNotFound' --root protos --include second --include first
 # Without files and folders all is as it was.
@@ -102,10 +103,54 @@ for name in ../outside/secret.proto ./secret.proto "$folder/outside/secret.proto
     source_at hostile/a.proto "import \"$name\";"
     mkdir include include/p && cp outside/secret.proto include/ && cp outside/secret.proto include/p/
     ends 1 'a.proto:1:27: ImportMissing' --root hostile --include include
-    rm hostile/a.proto
-    source_at hostile/secret.proto ''
-    [ -z "$name" ] || ends 3 'device: folder' --root hostile "$name"
 done
+
+# ---- a named file by other paths, and a folder; what does not lie below the root
+
+source_at named/x/a.proto 'message A {}'
+source_at named/y/b.proto 'message B {}'
+source_at named/y/z/c.proto 'message C {}'
+mkdir -p one/x three/y two/y/z && cp named/x/a.proto one/x/ && cp named/y/b.proto three/y/
+cp named/y/z/c.proto two/y/z/ && cp named/y/b.proto two/y/
+for name in x/a.proto ./x/a.proto x//a.proto y/../x/./a.proto "$folder/named/x/a.proto" "$folder/named/y/../x/a.proto" x x/; do
+    compiles one --root named "$name"
+    compiles one --root "$folder/named" "$name"
+done
+compiles two --root named y
+compiles two --root named y/z y/b.proto "$folder/named/y"
+compiles named --root named .
+compiles named --root named x y
+mkdir -p by && ln -s "$folder/named" by/link
+compiles one --root by/link "$folder/named/x/a.proto"
+# names STATUS LINE WORDS..: `check` with these words ends so, with this second line.
+names() {
+    rows=$((rows + 1))
+    "$program" check "${@:2}" >got.out 2>got.err
+    [ "$?" = 3 ] && [ "$(<got.err)" = "device: folder"$'\n'"$1" ] || fail "${*:2}: $(<got.err)"
+}
+names '../a.proto: it does not lie below the root' --root named ../a.proto
+names "$folder/only/own.proto: it does not lie below the root" --root named "$folder/only/own.proto"
+names 'x/a.proto: so this source is named, by its path from the root' --root named named/x/a.proto
+names 'named/x/b.proto: it is not there' --root named x/b.proto
+
+# ---- folders that are left out
+
+compiles one --root named --exclude y
+compiles one --root named --exclude ./y/ --exclude none
+compiles one --root named --exclude "$folder/named/y"
+compiles two --root named --exclude x y
+source_at three/x/a.proto 'message A {}'
+compiles three --root named --exclude y/z
+rm -r three/x
+compiles three --root named --exclude y/z y
+# What is imported from there is found. A folder that is left out is not listed, whatever is wrong with it.
+source_at imports/a.proto 'import "left/b.proto"; message A { B b = 1; }'
+source_at imports/left/b.proto 'message B {}'
+source_at imports/left/c.proto 'message'
+mkdir -p found/left && cp imports/a.proto found/ && cp imports/left/b.proto found/left/
+ln -s . imports/left/circle
+compiles found --root imports --exclude left
+ends 3 'device: folder' --root imports
 
 # ---- named files that are not there; folders, links and pipes in the place of a file
 

@@ -53,7 +53,9 @@ stands() {
 644 share/doc/sagetower/docs/LANGUAGE.md
 644 share/doc/sagetower/docs/REFLECTION.md
 644 share/doc/sagetower/tests/reflection.proto
+644 share/fish/vendor_completions.d/schema_server.fish
 644 share/man/man1/schema_server.1.gz
+644 share/zsh/vendor-completions/_schema_server
 FILES
     [ ! -f LICENSE ] || echo '644 share/doc/sagetower/copyright'
     git -C "$clone" ls-files -s examples | awk '{ print substr($1, 4), "share/doc/sagetower/" $4 }'

@@ -1,6 +1,6 @@
 #!/usr/bin/env bash
 # What is installed beside the program, below share/, by the lines of docs/GUIDE.md. man, groff and mandoc read the man page without a
-# warning; it has the commands, options and arguments of the program's help, and the completion for bash its commands, options and
+# warning; it has the commands, options and arguments of the program's help, and the completions their commands, options and
 # kinds of faults: these, and no other. What malloc is told is the same text wherever it stands.
 set -u
 cd "$(dirname "$(readlink -f "$0")")/.." || exit 2
@@ -148,6 +148,20 @@ offers '' describe ''
 for option in --listen --connections --workers --cut; do
     offers '' serve "$option" ''
 done
+offers $'gcc\ngithub\njson\ntext' check --format ''
+offers github check --format = gi
+
+# The completions for zsh and fish have the same commands and options, and are read by these shells where they are installed.
+cat "$folder/commands" "$folder/options" | sed 's/^--*//' | sort -u >"$folder/words"
+grep -oE "(^ *'[a-z]+:|\*?--[a-z_-]+|\{-[hV],)" share/zsh/site-functions/_schema_server | tr -d "' :*{," | sed 's/^--*//' | sort -u >"$folder/zsh.words"
+same 'words of the help and of the completion for zsh' "$folder/words" "$folder/zsh.words"
+{
+    sed -n 's/^set -l commands //p' share/fish/vendor_completions.d/schema_server.fish | tr ' ' '\n'
+    grep '^complete ' share/fish/vendor_completions.d/schema_server.fish | grep -oE -e '-[ls] [a-zA-Z_-]+' | cut -d ' ' -f 2
+} | sort -u >"$folder/fish.words"
+same 'words of the help and of the completion for fish' "$folder/words" "$folder/fish.words"
+! command -v zsh >/dev/null || zsh -n share/zsh/site-functions/_schema_server || fail 'zsh does not read its completion'
+! command -v fish >/dev/null || fish -n share/fish/vendor_completions.d/schema_server.fish || fail 'fish does not read its completion'
 
 # Folders and files; a word comes with its quotes, and is split at `=`.
 mkdir -p "$folder/place/orders" "$folder/place/old orders/a b" && touch "$folder/place/orders.pb" "$folder/place/old set.pb" || exit 2

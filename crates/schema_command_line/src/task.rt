@@ -3,11 +3,12 @@
 ghost use Rattle.std.specs.Prelude.{◌≡◌, IfOk, IfSome, codes, map, option_map};
 ghost use Rattle.clap.specs.Matches.{first_value, found_of};
 ghost use Rattle.clap.specs.declared.parser.matches.ArgMatches.{ArgMatches};
-ghost use Rattle.schema_command_line.specs.Tasks.{AreCustomOptions, IsAsked, IsCount, IsMode, IsOrigin, IsPlan, IsSelection, IsService, IsTaskNamed, IsVerbosity, file_of, value_of, values_of};
+ghost use Rattle.schema_command_line.specs.Tasks.{AreCustomOptions, IsAsked, IsCount, IsMode, IsOrigin, IsPlan, IsSelection, IsService, IsTaskNamed, IsVerbosity, file_of, form_named, value_of, values_of};
 
 use crate::words::whole_command;
 use clap::error::ErrorKind;
 use clap::{ArgMatches, Error};
+use fault_report::Form;
 use first_reach::Mode;
 use schema_explanation::Topic;
 use share_work::Plan;
@@ -21,7 +22,9 @@ pub struct Selection<'a> {
     pub root: &'a str,
     /// The folders in which an import is looked for that the root doesn't have, in their order.
     pub includes: Vec<&'a str>,
-    /// The sources that are named; none where all below the root are meant.
+    /// The folders below the root in which no source is looked for.
+    pub excludes: Vec<&'a str>,
+    /// The sources and the folders of sources that are named; none where all below the root are meant.
     pub files: Vec<&'a str>,
     pub custom_options: CustomOptions,
 }
@@ -57,11 +60,14 @@ pub enum Task<'a> {
         plan: Plan,
         /// The file that the set goes to; without one it goes to the output.
         file: Option<&'a str>,
+        /// The file that the rule goes to which says of what sources the set is made.
+        dependencies: Option<&'a str>,
     },
     /// Tell the faults of sources.
     Check {
         selection: Selection<'a>,
         plan: Plan,
+        form: Form,
     },
     /// Serve reflection by HTTP.
     Serve {
@@ -162,6 +168,7 @@ fn selection_of<'a>(alloc: Global, matches: &ArgMatches<'a>) -> Result<Selection
     Ok(Selection {
         root: matches.get_str("root").unwrap_or(""),
         includes: values_of(alloc, matches, "include")?,
+        excludes: values_of(alloc, matches, "exclude")?,
         files: values_of(alloc, matches, "files")?,
         custom_options: custom_options_of(matches),
     })
@@ -217,6 +224,18 @@ fn file_in<'a>(matches: &ArgMatches<'a>) -> Option<&'a str>
     }
 }
 
+/// The form of `check`. The parser of the words lets no other names through.
+fn form_of(matches: &ArgMatches<'_>) -> Form
+    ensures { result ≡ form_named (first_value (found_of matches.now) (codes "format")) }
+{
+    match matches.get_str("format") {
+        Some("gcc") => Form::Gcc,
+        Some("github") => Form::Github,
+        Some("json") => Form::Json,
+        _ => Form::Text,
+    }
+}
+
 /// How many connections are asked for, if they are counted.
 fn connections_in(matches: &ArgMatches<'_>) -> Option<u64>
     ensures { IsCount (found_of matches.now) (codes "connections") 64 result }
@@ -263,10 +282,12 @@ fn task_named<'a>(
             selection: selection_of(alloc, matches)?,
             plan: plan_of(matches),
             file: file_in(matches),
+            dependencies: matches.get_str("dependency_out"),
         },
         "check" => Task::Check {
             selection: selection_of(alloc, matches)?,
             plan: plan_of(matches),
+            form: form_of(matches),
         },
         "serve" => Task::Serve {
             origin: origin_of(alloc, matches)?,

@@ -1,5 +1,6 @@
 //! The words that the command line takes, as `clap` is told them.
 
+use clap::builder::ValueParser;
 use clap::{Arg, ArgAction, Command, value_parser};
 use std::alloc::{AllocError, Global};
 
@@ -34,6 +35,7 @@ fn set_argument<'a>(alloc: Global) -> Result<Arg<'a>, AllocError> {
     );
     set.conflicts_with("root")?
         .conflicts_with("include")?
+        .conflicts_with("exclude")?
         .conflicts_with("skip-custom-options")?
         .conflicts_with("files")
 }
@@ -45,6 +47,16 @@ fn include_argument<'a>(alloc: Global) -> Arg<'a> {
         .action(ArgAction::Append)
         .help(
             "a folder in which an import is looked for that the root doesn't have; any number of times",
+        )
+}
+
+fn exclude_argument<'a>(alloc: Global) -> Arg<'a> {
+    Arg::new(alloc, "exclude")
+        .long("exclude")
+        .value_name("DIR")
+        .action(ArgAction::Append)
+        .help(
+            "a folder below the root in which no source is looked for; any number of times. What is imported from there is found",
         )
 }
 
@@ -62,7 +74,7 @@ fn files_argument<'a>(alloc: Global) -> Arg<'a> {
         .value_name("FILE")
         .num_args(0..)
         .help(
-            "take these files alone, by their paths from the root, and what they import; without a file all below the root",
+            "take these files, or all below these folders, and what they import; without one all below the root",
         )
 }
 
@@ -110,6 +122,7 @@ fn command_with_root<'a>(
     let cut_help = "the most files that a worker takes at a time, 1 to 4096";
     let command = Command::new(alloc, name).about(about).arg(root);
     let command = with_argument(command, include_argument(alloc));
+    let command = with_argument(command, exclude_argument(alloc));
     let command = with_argument(command, skip_argument(alloc));
     let workers = count_argument(alloc, "workers", 64, "4", workers_help);
     let command = with_argument(command, workers);
@@ -145,18 +158,46 @@ fn output_argument<'a>(alloc: Global) -> Arg<'a> {
         .help("write the set to this file and not to standard output; a fault leaves it as it was")
 }
 
+fn dependency_argument<'a>(alloc: Global) -> Result<Arg<'a>, AllocError> {
+    Arg::new(alloc, "dependency_out")
+        .long("dependency_out")
+        .value_name("FILE")
+        .help(
+            "write to this file a rule for make and ninja: the file of --output, and all sources of which it is made",
+        )
+        .requires_arg("output")
+}
+
 fn compile_command<'a>(alloc: Global) -> Result<Command<'a>, AllocError> {
     let about = "Compiles the proto3 sources below a folder and writes their FileDescriptorSet";
-    with_argument(
+    let command = with_argument(
         source_command(alloc, "compile", about),
         output_argument(alloc),
-    )
+    );
+    with_argument(command, dependency_argument(alloc)?)
+}
+
+/// The forms of `check`, by their names.
+static FORMS: [&str; 4] = ["text", "gcc", "github", "json"];
+
+fn format_argument<'a>(alloc: Global) -> Arg<'a> {
+    Arg::new(alloc, "format")
+        .long("format")
+        .value_name("FORM")
+        .default_value("text")
+        .value_parser(ValueParser::Names(&FORMS))
+        .help(
+            "how faults are written: for people, as compilers do, for a workflow of GitHub, or as JSON, one a line",
+        )
 }
 
 fn check_command<'a>(alloc: Global) -> Result<Command<'a>, AllocError> {
     let about =
         "Tells the faults of the proto3 sources below a folder, each with its line, its meaning and its cure";
-    source_command(alloc, "check", about)
+    with_argument(
+        source_command(alloc, "check", about),
+        format_argument(alloc),
+    )
 }
 
 fn repeat_argument<'a>(alloc: Global) -> Arg<'a> {

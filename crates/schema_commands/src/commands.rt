@@ -5,8 +5,9 @@ ghost use Rattle.proto_compilation.specs.Compilation.{set_of};
 ghost use Rattle.schema_commands.specs.Runs.{IsAnswerRun, IsCompileRun, IsDescribeRun, IsExchanged, IsExplainRun, IsLineOf, IsSetAnswerRun, IsSetRun};
 ghost use Rattle.schema_compile.specs.Told.{IsToldOf};
 
+use crate::dependencies::{SetFiles, rule_of};
 use crate::set_writing::{Chunk, SetWriter};
-use crate::whole_file::write_whole;
+use crate::whole_file::{write_text, write_whole};
 use counted_io::{CountedRead, CountedWrite, read_bytes, write_bytes};
 use grpcweb_core::{Mode, answer_io};
 use proto_base::{Limit, Limits};
@@ -19,6 +20,7 @@ use schema_headline::describe;
 use schema_set::compiled_set;
 use schema_sources::{SourceFolder, read_sources};
 use share_work::{NoGate, Plan};
+use source_folder::NamedText;
 use std::alloc::{AllocError, AllocGlobal, Global};
 use std::fmt::Write;
 use std::mem::forget;
@@ -89,13 +91,40 @@ where
     }
 }
 
-/// Compiles the sources of a folder, and writes the set to a file or, without one, to the writer. What was compiled is not
-/// let go: a process that compiles ends with this.
+/// Writes the rule that says of which sources a set is made to a file, and then the set.
+fn write_files<R, F, O>(
+    rt: &R,
+    folder: &F,
+    root: &str,
+    texts: &[NamedText],
+    files: SetFiles<'_>,
+    set: &mut SetWriter<'_>,
+    writer: &mut O,
+) -> Result<(), Failure>
+where
+    R: Files + RandomSource + AllocGlobal,
+    F: SourceFolder,
+    O: CountedWrite,
+    requires { (O.writes writer.old).failures < 2 ^ 64 - 1 }
+    ensures { IsSetRun files.set.entry (O.writes writer.old) (O.writes writer.new)
+        (set_of set.old.compiled.now.files set.old.compiled.now.links) result }
+{
+    if let (Some(target), Some(dependencies)) = (files.set, files.dependencies) {
+        let order = set.compiled.links().set_order();
+        let rule = rule_of(rt.alloc(), folder, root, texts, target, order)?;
+        write_text(rt, dependencies, rule.as_str())?;
+    }
+    write_set(rt, files.set, set, writer)
+}
+
+/// Compiles the sources of a folder, whose root is shown so, and writes the set to a file or, without one, to the writer. What was
+/// compiled is not let go: a process that compiles ends with this.
 pub fn run_compile<R, F, O>(
     rt: &R,
     folder: &F,
+    root: &str,
     plan: Plan,
-    file: Option<&str>,
+    files: SetFiles<'_>,
     writer: &mut O,
 ) -> Result<(), Failure>
 where
@@ -103,7 +132,7 @@ where
     F: SourceFolder + Sync,
     O: CountedWrite,
     requires { (O.writes writer.old).failures < 2 ^ 64 - 1 }
-    ensures { IsCompileRun (F.sources folder.now) file.entry (O.writes writer.old)
+    ensures { IsCompileRun (F.sources folder.now) files.set.entry (O.writes writer.old)
         (O.writes writer.new) result }
 {
     let limits = Limits::standard();
@@ -111,7 +140,7 @@ where
     let texts = read_sources(rt, folder, &limits, plan)?;
     let compiled = compile_texts(rt, &texts, &limits, plan, Leftovers::Forgotten)?;
     let mut set = SetWriter::new(&compiled, chunk);
-    let written = write_set(rt, file, &mut set, writer);
+    let written = write_files(rt, folder, root, &texts, files, &mut set, writer);
     drop(set);
     forget(compiled);
     forget(texts);

@@ -146,7 +146,7 @@ impl SetWriter<'_> {
     }
 
     /// Writes the set to a file or a device, and tells how many bytes it has.
-    pub(crate) fn put<W: Write>(&mut self, file: &mut W) -> io::Result<u64> {
+    pub(crate) fn put_files<W: Write>(&mut self, file: &mut W) -> io::Result<u64> {
         let compiled = self.compiled;
         compiled.is_sound();
         let mut len = 0u64;

@@ -1,9 +1,12 @@
-//! A set that goes to a file. Where the system lets it be, the file is written whole or not at all: under a name beside
-//! it, which then takes its place.
+//! What goes to a file. Where the system lets it be, the file is written whole or not at all: under a name beside it, which
+//! then takes its place.
 
-ghost use Rattle.std.specs.Prelude.{◌-◌, ◌<◌, ◌^◌, Some};
+ghost use Rattle.std.specs.Prelude.{◌≡◌, ◌-◌, ◌<◌, ◌^◌, ◌⊎◌, IfErr, Some};
 ghost use Rattle.proto_compilation.specs.Compilation.{set_of};
 ghost use Rattle.schema_commands.specs.Runs.{IsSetRun};
+ghost use Rattle.schema_failure.specs.Faults.{IsOfDevice};
+ghost use Rattle.schema_failure.specs.declared.failure.Device.TheVariants as devices;
+ghost use Rattle.schema_failure.specs.declared.failure.Failure.TheVariants as failures;
 
 use crate::set_writing::SetWriter;
 use counted_io::CountedWrite;
@@ -21,6 +24,25 @@ const MOST_LINKS: u32 = 40;
 
 /// The mode of a file that only its owner reads and writes.
 const PRIVATE: u32 = 0o600;
+
+/// What is written to a file.
+pub(crate) trait Contents {
+    /// Writes all of it, and tells how many bytes it has.
+    fn put<W: Write>(&mut self, file: &mut W) -> io::Result<u64>;
+}
+
+impl Contents for SetWriter<'_> {
+    fn put<W: Write>(&mut self, file: &mut W) -> io::Result<u64> {
+        self.put_files(file)
+    }
+}
+
+impl Contents for &str {
+    fn put<W: Write>(&mut self, file: &mut W) -> io::Result<u64> {
+        file.write_all(self.as_bytes())?;
+        Ok(self.len() as u64)
+    }
+}
 
 /// What a path leads to.
 #[derive(Drop)]
@@ -172,18 +194,19 @@ where
 }
 
 /// Writes a new file at this path, which gets the owner, the group and the mode of another, and waits until the disk has it.
-fn fill<R>(
+fn fill<R, C>(
     rt: &R,
     path: Path<'_>,
     file: R::File,
-    set: &mut SetWriter<'_>,
+    contents: &mut C,
     kept: Option<&Metadata>,
 ) -> io::Result<()>
 where
     R: Files,
+    C: Contents,
 {
     let mut file = file;
-    set.put(&mut file)?;
+    contents.put(&mut file)?;
     if let Some(kept) = kept {
         chown(rt, path, Some(kept.uid()), Some(kept.gid()))?;
         file.set_permissions(kept.permissions())?;
@@ -192,19 +215,20 @@ where
 }
 
 /// Puts a file in the place of what stands at a path, if anything does. Where that fails, nothing has changed.
-fn replace<R>(
+fn replace<R, C>(
     rt: &R,
     path: Path<'_>,
-    set: &mut SetWriter<'_>,
+    contents: &mut C,
     kept: Option<&Metadata>,
 ) -> io::Result<()>
 where
     R: Files + RandomSource + AllocGlobal,
+    C: Contents,
 {
     let named = path_beside(rt, path)?;
     let beside = named.as_path();
     let file = make_new(rt, beside, kept)?;
-    let placed = match fill(rt, beside, file, set, kept) {
+    let placed = match fill(rt, beside, file, contents, kept) {
         Ok(()) => fs::rename(rt, beside, path),
         failed => failed,
     };
@@ -230,29 +254,52 @@ fn is_refusal(error: &io::Error) -> bool {
 }
 
 /// Writes over what a file has.
-fn write_over<F: Write + OpenFile>(file: &mut F, set: &mut SetWriter<'_>) -> io::Result<()> {
-    let len = set.put(file)?;
+fn write_over<F, C>(file: &mut F, contents: &mut C) -> io::Result<()>
+where
+    F: Write + OpenFile,
+    C: Contents,
+{
+    let len = contents.put(file)?;
     file.set_len(len)?;
     file.sync_all()
 }
 
 /// Gives a file other bytes. It is opened first, since a file that may not be written is not replaced either.
-fn rewrite<R>(rt: &R, path: Path<'_>, set: &mut SetWriter<'_>) -> io::Result<()>
+fn rewrite<R, C>(rt: &R, path: Path<'_>, contents: &mut C) -> io::Result<()>
 where
     R: Files + RandomSource + AllocGlobal,
+    C: Contents,
 {
     let mut file = File::options().write(true).open(rt, path)?;
     let kept = file.metadata()?;
-    match replace(rt, path, set, Some(&kept)) {
-        Err(error) if is_refusal(&error) => write_over(&mut file, set),
+    match replace(rt, path, contents, Some(&kept)) {
+        Err(error) if is_refusal(&error) => write_over(&mut file, contents),
         replaced => replaced,
     }
 }
 
-fn write_device<R: Files>(rt: &R, path: &str, set: &mut SetWriter<'_>) -> io::Result<()> {
+fn write_device<R, C>(rt: &R, path: &str, contents: &mut C) -> io::Result<()>
+where
+    R: Files,
+    C: Contents,
+{
     let mut device = File::options().write(true).open(rt, path)?;
-    set.put(&mut device)?;
+    contents.put(&mut device)?;
     Ok(())
+}
+
+/// Writes to where a path leads, which is not the standard output.
+fn write_to<R, C>(rt: &R, path: &str, destination: Destination, contents: &mut C) -> io::Result<()>
+where
+    R: Files + RandomSource + AllocGlobal,
+    C: Contents,
+{
+    match destination {
+        Destination::StandardOutput => Err(io::Error::from(ErrorKind::Unsupported)),
+        Destination::Device => write_device(rt, path, contents),
+        Destination::File(file) => rewrite(rt, file.as_path(), contents),
+        Destination::Free(free) => replace(rt, free.as_path(), contents, None),
+    }
 }
 
 /// Writes a set where a path leads, which may be to the writer.
@@ -271,9 +318,24 @@ where
 {
     let written = match destination_of(rt, path) {
         Ok(Destination::StandardOutput) => return set.write(writer),
-        Ok(Destination::Device) => write_device(rt, path, set),
-        Ok(Destination::File(file)) => rewrite(rt, file.as_path(), set),
-        Ok(Destination::Free(free)) => replace(rt, free.as_path(), set, None),
+        Ok(destination) => write_to(rt, path, destination, set),
+        Err(error) => Err(error),
+    };
+    match written {
+        Ok(()) => Ok(()),
+        Err(error) => Err(Failure::of_error(Device::Output, error)),
+    }
+}
+
+/// Writes a text where a path leads. The standard output is refused, since a set may go there.
+pub(crate) fn write_text<R>(rt: &R, path: &str, text: &str) -> Result<(), Failure>
+where
+    R: Files + RandomSource + AllocGlobal,
+    ensures { IfErr result (λ f. IsOfDevice devices.Output f ⊎ (f ≡ failures.NoMemory)) }
+{
+    let mut contents = text;
+    let written = match destination_of(rt, path) {
+        Ok(destination) => write_to(rt, path, destination, &mut contents),
         Err(error) => Err(error),
     };
     match written {

@@ -42,10 +42,10 @@ IsAnswerFrom (origin.Set path) = IsSetAnswerRun path.now
 
 -- what a task read and wrote, by how it ended
 abbrev pub IsPerformed : Task → Reads → Reads → Writes → Writes → Result Verdict Failure → Type 0
-IsPerformed (task.Compile selection plan file) reads reads' writes writes' =
+IsPerformed (task.Compile selection plan file dependencies) reads reads' writes writes' =
     EndsSound (λ done. IsCompileRun (unknown selection.custom_options) file writes writes' done)
-IsPerformed (task.Check selection plan) reads reads' writes writes' =
-    λ done. IsFolderCheck (unknown selection.custom_options) selection.root.now writes writes' done
+IsPerformed (task.Check selection plan form) reads reads' writes writes' =
+    λ done. IsFolderCheck (unknown selection.custom_options) form selection.root.now writes writes' done
 IsPerformed (task.Serve from service plan mode) reads reads' writes writes' =
     EndsSound (λ done. IsServeFrom from service.listen.now service.connections writes writes' done)
 IsPerformed (task.Answer from plan mode) reads reads' writes writes' =

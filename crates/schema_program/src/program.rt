@@ -12,7 +12,9 @@ use first_reach::Mode;
 use http_connection::ServeOptions;
 use schema_check::run_check;
 use schema_command_line::{Asked, Origin, Selection, Service, Task, Verbosity, asked_of};
-use schema_commands::{run_answer, run_answer_set, run_compile, run_describe, run_explain};
+use schema_commands::{
+    SetFiles, run_answer, run_answer_set, run_compile, run_describe, run_explain,
+};
 use schema_failure::{Device, ExitStatus, Failure, Verdict, write_detail, write_failure};
 use schema_serve::{run_serve, run_serve_set};
 use schema_sources::SystemFolder;
@@ -34,6 +36,7 @@ fn folder_of<'a, R>(rt: &'a R, selection: &'a Selection<'a>) -> SystemFolder<'a,
         rt,
         root: selection.root,
         includes: &selection.includes,
+        excludes: &selection.excludes,
         files: &selection.files,
         custom_options: selection.custom_options,
     }
@@ -165,13 +168,22 @@ where
             selection,
             plan,
             file,
+            dependencies,
         } => {
             let folder = folder_of(rt, selection);
-            sound(run_compile(rt, &folder, *plan, *file, output))
+            let files = SetFiles {
+                set: *file,
+                dependencies: *dependencies,
+            };
+            sound(run_compile(rt, &folder, selection.root, *plan, files, output))
         }
-        Task::Check { selection, plan } => {
+        Task::Check {
+            selection,
+            plan,
+            form,
+        } => {
             let folder = folder_of(rt, selection);
-            run_check(rt, &folder, selection.root, *plan, output)
+            run_check(rt, &folder, *form, selection.root, *plan, output)
         }
         Task::Serve {
             origin,

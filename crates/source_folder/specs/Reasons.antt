@@ -37,6 +37,8 @@ words_of reason.Nowhere = codes "it is a link that leads nowhere"
 words_of reason.Untold = codes "the system does not tell what it is"
 words_of reason.Unlisted = codes "it could not be listed"
 words_of reason.Unread = codes "it could not be read"
+words_of reason.Outside = codes "it does not lie below the root"
+words_of reason.OtherName = codes "so this source is named, by its path from the root"
 
 -- the fault in words
 abbrev pub words_of_fault : FolderFault → List ℕ

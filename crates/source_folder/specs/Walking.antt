@@ -3,7 +3,7 @@ use Rattle.std.specs.Prelude.{◌≡◌, ℕ, ◌+◌, ◌==◌, ◌⊎◌, Bool
 use Rattle.std.specs.List.{list_any}
 use Rattle.source_folder.specs.Kinds.{is_same}
 use Rattle.source_folder.specs.Ordered.{paths_of}
-use Rattle.source_folder.specs.Paths.{ends_in_proto, joined_path}
+use Rattle.source_folder.specs.Paths.{ends_in_proto}
 use Rattle.source_folder.specs.Troubles.{IsTroubleAt, no_memory}
 use Rattle.source_folder.specs.declared.fault.FolderFault.TheVariants as faults
 use Rattle.source_folder.specs.declared.kind.Identity.{Identity}
@@ -51,15 +51,14 @@ refusal_of_kind walk path depth k = None
 abbrev pub refusal_of : Walk → List ℕ → ℕ → EntryKind → Option Reason
 refusal_of walk path depth k = if walk.entries_left == 0 then Some TooMany else refusal_of_kind walk path depth k
 
--- an entry of this name in a folder, whatever it is, is added to what is known
-abbrev pub TakesEntry : Folder → List ℕ → Walk → Walk → Type 0
-TakesEntry folder name old new =
-    (k : EntryKind) × TakesIn (joined_path (string_bytes folder.path) name) folder.depth k old new
+-- an entry of this path, in a folder so deep, whatever it is, is added to what is known
+abbrev pub TakesEntry : List ℕ → ℕ → Walk → Walk → Type 0
+TakesEntry path depth old new = (k : EntryKind) × TakesIn path depth k old new
 
--- an entry of this name in a folder, whatever it is, can't be taken in, and that is told of it; or memory was short
-abbrev pub IsRefusedAt : Folder → (name whole : List ℕ) → Walk → FolderTrouble → Type 0
-IsRefusedAt folder name whole walk trouble = (trouble ≡ no_memory) ⊎ ((k : EntryKind) × (reason : Reason)
-    × (refusal_of walk (joined_path (string_bytes folder.path) name) folder.depth k ≡ Some reason)
+-- an entry of this path, in a folder so deep, whatever it is, can't be taken in, and that is told of it; or memory was short
+abbrev pub IsRefusedAt : List ℕ → ℕ → (whole : List ℕ) → Walk → FolderTrouble → Type 0
+IsRefusedAt path depth whole walk trouble = (trouble ≡ no_memory) ⊎ ((k : EntryKind) × (reason : Reason)
+    × (refusal_of walk path depth k ≡ Some reason)
     × IsTroubleAt faults.Listing whole reason trouble)
 
 -- the way leads on to a folder, from the folder in which it lies
@@ -69,10 +68,10 @@ pub record Enters (folder : Folder) (old new : Walk) : Type 0 where
   pub folders : new.folders ≡ old.folders
   pub left : new.entries_left ≡ old.entries_left
 
--- a walk that begins at the root
-pub record IsStart (root : Identity) (walk : Walk) : Type 0 where
+-- a walk that begins at a folder of this path
+pub record IsStart (path : List ℕ) (folder : Identity) (walk : Walk) : Type 0 where
   pub sources : walk.sources.items ≡ []
-  pub folders : map folder_parts walk.folders.items ≡ ([], 0, root) ∷ []
+  pub folders : map folder_parts walk.folders.items ≡ (path, 0, folder) ∷ []
   pub way : walk.way.items ≡ []
   pub left : walk.entries_left ≡ 1048576
 

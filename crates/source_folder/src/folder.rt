@@ -109,7 +109,23 @@ pub fn source_names<R: Files + AllocGlobal>(
         names.items) }
     ensures few { IfOk result (λ names. vec_len names ≤ 1_048_576) }
 {
-    let mut sources = sources_below(rt, root)?;
+    source_names_below(rt, root, "", &[])
+}
+
+/// The same of the sources that lie in a folder of this path from the root, without those of which the path, or that of a folder around
+/// them, is left out: these are not listed.
+pub fn source_names_below<R: Files + AllocGlobal>(
+    rt: &R,
+    root: &str,
+    below: &str,
+    excluded: &[String],
+) -> Result<Vec<String>, FolderTrouble>
+    ensures order { IfOk result (λ names. NamesRise (map string_bytes names.items)) }
+    ensures proto { IfOk result (λ names. All (λ n. IsTrue (ends_in_proto (string_bytes n)))
+        names.items) }
+    ensures few { IfOk result (λ names. vec_len names ≤ 1_048_576) }
+{
+    let mut sources = sources_below(rt, root, below, excluded)?;
     sort_by_path(&mut sources);
     if have_twins(&sources) {
         let fault = FolderFault::Listing;
@@ -222,6 +238,29 @@ pub fn read_source<R: Files + AllocGlobal>(
         Some(path) => text_at(rt, path.as_str(), most_bytes(limits)),
         None => Ok(None),
     }
+}
+
+/// What stands at a path below a folder.
+#[derive(Clone, Copy, PartialEq, Eq)]
+pub enum Standing {
+    Nothing,
+    Folder,
+    /// A file, or what may be one.
+    Other,
+}
+
+/// What stands at the path of this name below a folder.
+pub fn standing_at<R: Files + AllocGlobal>(
+    rt: &R,
+    root: &str,
+    name: &str,
+) -> Result<Standing, AllocError> {
+    let path = join_path(rt.alloc(), root, name)?;
+    Ok(match EntryKind::at(rt, path.as_str())? {
+        EntryKind::Nowhere => Standing::Nothing,
+        EntryKind::Folder(_) => Standing::Folder,
+        _ => Standing::Other,
+    })
 }
 
 /// The path of the file of this name below a folder, if a file is there that `read_source` would read.

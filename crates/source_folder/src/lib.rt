@@ -12,8 +12,10 @@ mod walk;
 
 pub use fault::FolderFault;
 pub use folder::{
-    NamedText, listed_text, read_folder, read_source, source_names, source_path, sources_in,
+    NamedText, Standing, listed_text, read_folder, read_source, source_names, source_names_below,
+    source_path, sources_in, standing_at,
 };
 pub use paths::is_below;
 pub use reason::Reason;
 pub use trouble::{FolderTrouble, TroubledEntry};
+pub use walk::expect_folder;

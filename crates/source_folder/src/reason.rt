@@ -32,6 +32,10 @@ pub enum Reason {
     Unlisted,
     /// The system doesn't read it.
     Unread,
+    /// It leads out of the root.
+    Outside,
+    /// It is a source, by this path from the root, that was named by another one.
+    OtherName,
 }
 
 impl Reason {
@@ -68,6 +72,8 @@ impl Reason {
             Reason::Untold => "the system does not tell what it is",
             Reason::Unlisted => "it could not be listed",
             Reason::Unread => "it could not be read",
+            Reason::Outside => "it does not lie below the root",
+            Reason::OtherName => "so this source is named, by its path from the root",
         }
     }
 }

@@ -1,6 +1,7 @@
 //! Listing what is below a root.
 
-ghost use Rattle.std.specs.Prelude.{◌≡◌, ◌≤◌, IfErr, IfOk, IsTrue, None, OnOk, string_bytes, vec_len};
+ghost use Rattle.std.specs.Prelude.{◌≡◌, ◌≤◌, IfErr, IfOk, IsTrue, None, OnOk, bytes_eq, string_bytes, vec_len};
+ghost use Rattle.std.specs.List.{list_any};
 ghost use Rattle.source_folder.specs.Paths.{ends_in_proto};
 
 use crate::fault::FolderFault;
@@ -52,14 +53,14 @@ struct Walk {
 impl Walk {
     ghost use Rattle.source_folder.specs.Walking.{Enters, IsRefusedAt, IsStart, TakesEntry, TakesIn, is_on_way, most_sources, refusal_of, steps_left};
 
-    /// A walk that begins at the root.
-    fn new(alloc: Global, root: Identity) -> Result<Walk, AllocError>
-        ensures { IfOk result (IsStart root) }
+    /// A walk that begins at the folder of this path from the root.
+    fn new(alloc: Global, path: &str, identity: Identity) -> Result<Walk, AllocError>
+        ensures { IfOk result (IsStart path.now identity) }
     {
         let root = Folder {
-            path: String::new(alloc),
+            path: String::from_str(alloc, path)?,
             depth: 0,
-            identity: root,
+            identity,
         };
         let mut folders = Vec::new(alloc);
         folders.push(root)?;
@@ -126,32 +127,33 @@ impl Walk {
         Ok(())
     }
 
-    /// Takes in an entry of a folder by its whole path and its name.
+    /// Takes in an entry of this path, in a folder so deep, by its whole path.
     fn take_entry<R: Files + AllocGlobal>(
         &mut self,
         rt: &R,
-        folder: &Folder,
+        path: String,
+        depth: u32,
         whole: &str,
-        name: &str,
     ) -> Result<(), FolderTrouble>
-        ensures ok { OnOk result (TakesEntry folder.now name.now self.old self.new) }
-        ensures refused { IfErr result (IsRefusedAt folder.now name.now whole.now self.old) }
+        requires shallow { depth ≤ 64 }
+        ensures ok { OnOk result (TakesEntry (string_bytes path) depth self.old self.new) }
+        ensures refused { IfErr result (IsRefusedAt (string_bytes path) depth whole.now self.old) }
     {
         let alloc = rt.alloc();
-        let path = join_path(alloc, folder.path.as_str(), name)?;
         let kind = EntryKind::at(rt, whole)?;
-        if let Some(reason) = self.refusal(path.as_str(), folder.depth, kind) {
+        if let Some(reason) = self.refusal(path.as_str(), depth, kind) {
             let fault = FolderFault::Listing;
             return Err(FolderTrouble::at(alloc, fault, whole, reason));
         }
-        self.take_in(path, folder.depth, kind)?;
+        self.take_in(path, depth, kind)?;
         Ok(())
     }
 
-    /// Takes in an entry of a folder as the system listed it.
+    /// Takes in an entry of a folder as the system listed it, unless its path is one of those that are left out.
     fn take_listed<R: Files + AllocGlobal>(
         &mut self,
         rt: &R,
+        excluded: &[String],
         folder: &Folder,
         whole: &str,
         entry: io::Result<DirEntry<&R>>,
@@ -159,16 +161,22 @@ impl Walk {
         ensures ends { OnOk result (steps_left self.new ≤ steps_left self.old) }
         ensures counted { OnOk result (most_sources self.new ≤ most_sources self.old) }
     {
-        match entry {
-            Ok(entry) => self.take_entry(rt, folder, entry.path().as_str(), entry.file_name()),
-            Err(error) => Err(FolderTrouble::listing(rt.alloc(), whole, &error)),
+        let entry = match entry {
+            Ok(entry) => entry,
+            Err(error) => return Err(FolderTrouble::listing(rt.alloc(), whole, &error)),
+        };
+        let path = join_path(rt.alloc(), folder.path.as_str(), entry.file_name())?;
+        if is_excluded(excluded, path.as_str()) {
+            return Ok(());
         }
+        self.take_entry(rt, path, folder.depth, entry.path().as_str())
     }
 
     /// Takes in what a folder with this whole path holds.
     fn take_all<R: Files + AllocGlobal>(
         &mut self,
         rt: &R,
+        excluded: &[String],
         folder: &Folder,
         whole: &str,
     ) -> Result<(), FolderTrouble>
@@ -181,7 +189,7 @@ impl Walk {
             Err(error) => return Err(FolderTrouble::listing(rt.alloc(), whole, &error)),
         };
         for entry in entries {
-            self.take_listed(rt, folder, whole, entry)?;
+            self.take_listed(rt, excluded, folder, whole, entry)?;
         }
         Ok(())
     }
@@ -191,6 +199,7 @@ impl Walk {
         &mut self,
         rt: &R,
         root: &str,
+        excluded: &[String],
         folder: &Folder,
     ) -> Result<(), FolderTrouble>
         ensures ends { OnOk result (steps_left self.new ≤ steps_left self.old) }
@@ -198,8 +207,15 @@ impl Walk {
     {
         self.enter(folder)?;
         let whole = join_path(rt.alloc(), root, folder.path.as_str())?;
-        self.take_all(rt, folder, whole.as_str())
+        self.take_all(rt, excluded, folder, whole.as_str())
     }
+}
+
+/// Whether a path is one of those that are left out.
+fn is_excluded(excluded: &[String], path: &str) -> bool
+    ensures { result ≡ list_any (λ e. bytes_eq (string_bytes e) path.now) excluded.now }
+{
+    excluded.iter().any(|one| one.as_str() == path)
 }
 
 /// The identity of a root, which has to be a folder.
@@ -214,17 +230,26 @@ fn identity_of_root<R: Files + AllocGlobal>(rt: &R, root: &str) -> Result<Identi
     }
 }
 
-/// The sources below a root, in no order.
+/// That a path leads to a folder. Else it is `Listing`, with the path and the reason.
+pub fn expect_folder<R: Files + AllocGlobal>(rt: &R, path: &str) -> Result<(), FolderTrouble> {
+    identity_of_root(rt, path)?;
+    Ok(())
+}
+
+/// The sources below a folder, which has this path from the root, in no order and without what is left out.
 pub(crate) fn sources_below<R: Files + AllocGlobal>(
     rt: &R,
     root: &str,
+    below: &str,
+    excluded: &[String],
 ) -> Result<Vec<ProtoEntry>, FolderTrouble>
     ensures { IfOk result (λ sources. vec_len sources ≤ MAX_ENTRIES) }
 {
-    let identity = identity_of_root(rt, root)?;
-    let mut walk = Walk::new(rt.alloc(), identity)?;
+    let whole = join_path(rt.alloc(), root, below)?;
+    let identity = identity_of_root(rt, whole.as_str())?;
+    let mut walk = Walk::new(rt.alloc(), below, identity)?;
     while let Some(folder) = walk.folders.pop() {
-        walk.list(rt, root, &folder)?;
+        walk.list(rt, root, excluded, &folder)?;
     }
     Ok(walk.sources)
 }

@@ -34,6 +34,6 @@ returns g c =
         rw c.deref.ensures.value c.in_ok-texts.ensures,
         set_of compiled.files compiled.links,
         (of.0, of.1, (compiled, of.2, refl)),
-        rw c.new-set.ensures at c.write_set-written.ensures,
+        rw c.new-set.ensures at c.write_files-written.ensures,
       ),
     )
