@@ -1,17 +1,19 @@
-//! Any reader or writer of std, with a count of its calls that failed.
+//! Any reader or writer of std, with a count of its calls that failed, and what the last of these said.
 
-ghost use Rattle.std.specs.Prelude.{◌≡◌, ◌++◌};
+ghost use Rattle.std.specs.Prelude.{◌≡◌, ◌++◌, ◌-◌, ◌<◌, ◌^◌, suc};
 ghost use Rattle.counted_io.specs.Counting.{bytes_of, calls_of};
 
 use crate::stream::{CountedRead, CountedWrite};
 use http_server::Log;
-use std::io::{self, Read, Write};
+use std::io::{self, ErrorKind, Read, Write};
 
-/// A reader or a writer, and how many of its calls have failed. The logs take no memory: proofs alone read them.
+/// A reader or a writer, how many of its calls have failed, and what the last of these said. The logs take no memory: proofs alone
+/// read them.
 #[derive(Drop)]
 pub struct Counted<D> {
     inner: D,
     failures: u64,
+    last_error: Option<io::Error>,
     given: Log<u8, ()>,
     calls: Log<usize, Option<usize>>,
     taken: Log<u8, ()>,
@@ -36,6 +38,7 @@ impl<D> Counted<D> {
         Counted {
             inner,
             failures: 0,
+            last_error: None,
             given: Log::new(),
             calls: Log::new(),
             taken: Log::new(),
@@ -48,6 +51,20 @@ impl<D> Counted<D> {
         ensures { result ≡ self.now.failures }
     {
         self.failures
+    }
+
+    /// Notes a call that failed.
+    fn fail(&mut self, error: io::Error)
+        requires { self.old.failures < 2 ^ 64 - 1 }
+        ensures failures { self.new.failures ≡ suc self.old.failures }
+        ensures inner { self.new.inner ≡ self.old.inner }
+        ensures given { self.new.given ≡ self.old.given }
+        ensures calls { self.new.calls ≡ self.old.calls }
+        ensures taken { self.new.taken ≡ self.old.taken }
+        ensures unflushed { self.new.unflushed ≡ self.old.unflushed }
+    {
+        self.failures += 1;
+        self.last_error = Some(error);
     }
 }
 
@@ -69,10 +86,14 @@ impl<I: Read> CountedRead for Counted<I> {
             }
             Err(error) => {
                 self.calls = self.calls.and(&room, &None);
-                self.failures += 1;
+                self.fail(error);
                 Err(error)
             }
         }
+    }
+
+    fn last_error(&self) -> Option<io::Error> {
+        self.last_error
     }
 }
 
@@ -87,7 +108,7 @@ impl<O: Write> CountedWrite for Counted<O> {
     fn write(&mut self, buffer: &[u8]) -> io::Result<usize> {
         match self.inner.write(buffer) {
             Ok(0) => {
-                self.failures += 1;
+                self.fail(io::Error::from(ErrorKind::WriteZero));
                 Ok(0)
             }
             Ok(count) => {
@@ -96,7 +117,7 @@ impl<O: Write> CountedWrite for Counted<O> {
                 Ok(count)
             }
             Err(error) => {
-                self.failures += 1;
+                self.fail(error);
                 Err(error)
             }
         }
@@ -109,9 +130,13 @@ impl<O: Write> CountedWrite for Counted<O> {
                 Ok(())
             }
             Err(error) => {
-                self.failures += 1;
+                self.fail(error);
                 Err(error)
             }
         }
+    }
+
+    fn last_error(&self) -> Option<io::Error> {
+        self.last_error
     }
 }

@@ -45,6 +45,11 @@ pub trait CountedRead {
         requires { (reads self.old).failures < 2 ^ 64 - 1 }
         ensures bound { ReadsAtMost result buffer.new }
         ensures once { IsReadOnce (reads self.old) (reads self.new) result buffer.new };
+
+    /// What the last of its calls that failed said, where that is known.
+    fn last_error(&self) -> Option<io::Error> {
+        None
+    }
 }
 
 /// A writer whose calls are counted. A write that takes no byte has failed, as has one that is refused.
@@ -62,4 +67,9 @@ pub trait CountedWrite {
     fn flush(&mut self) -> io::Result<()>
         requires { (writes self.old).failures < 2 ^ 64 - 1 }
         ensures { IsFlushedOnce (writes self.old) (writes self.new) result };
+
+    /// What the last of its calls that failed said, where that is known.
+    fn last_error(&self) -> Option<io::Error> {
+        None
+    }
 }

@@ -2,9 +2,11 @@
 #![tactic(auto)]
 
 mod excerpt;
+mod form;
 mod line;
 mod shown;
 mod token_end;
 
 pub use excerpt::{Excerpt, excerpt_at};
+pub use form::Form;
 pub use line::{Line, line_around};

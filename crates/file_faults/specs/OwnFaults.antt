@@ -1,27 +1,33 @@
--- The faults of sources by themselves: of each that has one, the first.
-use Rattle.std.specs.Prelude.{◌≡◌, ℕ, ◌<◌, List, [], ◌∷◌, length}
+-- The faults of sources by themselves.
+use Rattle.std.specs.Prelude.{◌≡◌, ℕ, ◌<◌, ◌↔◌, List, [], ◌∷◌, ◌++◌, AllPairs, Contains, length, map}
+use Rattle.proto_base.specs.FileFaults.{IsEarlier}
 use Rattle.proto_base.specs.declared.file_fault.FileFault.{FileFault}
 use Rattle.proto_base.specs.declared.limits.Limits.{Limits}
-use Rattle.proto_compile.specs.Descriptions.{SourceDescribes}
-use Rattle.proto_compile.specs.FaultSet.{SourceFault, fault}
+use Rattle.proto_compile.specs.FaultSet.{IsFault, SourceFault, fault}
 use Rattle.proto_compile.specs.Sources.{name_at, name_of, text_of}
 use Rattle.proto_compile.specs.declared.source.Source.{Source}
-use Rattle.proto_desc.specs.declared.file.FileDesc.{FileDesc}
-use Rattle.proto_file.specs.Local.{IsLocalFault}
+use Rattle.proto_file.specs.Local.{IsOwnFault}
 
--- one for each source with a fault of its own, in the order of the sources: a source that describes something has none
+-- exactly the faults of one source by itself, each once, by step, place and the kind's number
+pub record AreOwnFaults (limits : Limits) (s : Source) (faults : List FileFault) : Type 0 where
+  pub all : (f : FileFault) → Contains faults f ↔ IsOwnFault limits (name_of s) (text_of s) f
+  pub order : AllPairs IsEarlier faults
+
+-- those of each source with its name, in the order of the sources
 pub data AreFileFaults (limits : Limits) : List Source → List SourceFault → Type 0 where
   none : AreFileFaults limits [] []
-  sound : (s : Source) (desc : FileDesc) (files : List Source) (faults : List SourceFault)
-      → SourceDescribes limits s desc → AreFileFaults limits files faults → AreFileFaults limits (s ∷ files) faults
-  faulty : (s : Source) (f : FileFault) (files : List Source) (faults : List SourceFault)
-      → IsLocalFault limits (name_of s) (text_of s) f → AreFileFaults limits files faults
-      → AreFileFaults limits (s ∷ files) (fault 1 (name_of s) f ∷ faults)
+  more : (s : Source) (own : List FileFault) (files : List Source) (faults : List SourceFault)
+      → AreOwnFaults limits s own → AreFileFaults limits files faults
+      → AreFileFaults limits (s ∷ files) (map (fault 1 (name_of s)) own ++ faults)
 
--- the fault is the source's first by itself
+-- the fault is one of the source by itself
 abbrev pub HasFault : Limits → Source → SourceFault → Type 0
 HasFault limits s x =
-    (f : FileFault) × IsLocalFault limits (name_of s) (text_of s) f × (x ≡ fault 1 (name_of s) f)
+    (f : FileFault) × IsOwnFault limits (name_of s) (text_of s) f × (x ≡ fault 1 (name_of s) f)
+
+-- exactly all faults of sources
+abbrev pub AreAllFaults : Limits → List Source → List SourceFault → Type 0
+AreAllFaults limits sources faults = (x : SourceFault) → Contains faults x ↔ IsFault limits sources x
 
 -- no two sources have one name
 abbrev pub NamesDiffer : List Source → Type 0

@@ -1,24 +1,25 @@
 //! The faults of sources, each by itself, by workers.
 
-ghost use Rattle.std.specs.Prelude.{◌≡◌, ◌≤◌, [], ◌∷◌, ◌++◌, List, IfOk, OnOk, length, map};
-ghost use Rattle.file_faults.specs.OwnFaults.{AreFileFaults};
-ghost use Rattle.file_faults.specs.Found.{added_by, faults_in};
+ghost use Rattle.std.specs.Prelude.{◌≡◌, ◌≢◌, ◌≤◌, [], ◌∷◌, ◌++◌, List, AllPairs, IfOk, OnOk, length, map};
+ghost use Rattle.file_faults.specs.OwnFaults.{AreAllFaults, AreFileFaults};
+ghost use Rattle.file_faults.specs.Found.{faults_in, named_by};
 ghost use Rattle.proto_base.specs.Limits.{limit_of};
 ghost use Rattle.proto_base.specs.declared.fault.Fault.{Fault};
 ghost use Rattle.proto_base.specs.declared.limits.Limit.TheVariants as limit;
-ghost use Rattle.proto_compile.specs.FaultSet.{IsLeastFault, fault as source_fault, told_by};
-ghost use Rattle.proto_compile.specs.Sources.{AreByName};
+ghost use Rattle.proto_compile.specs.FaultSet.{IsEarlier, IsLeastFault, fault as source_fault, told_by};
+ghost use Rattle.proto_base.specs.NameOrder.{NamesRise};
+ghost use Rattle.proto_compile.specs.Sources.{AreByName, name_of};
 ghost use Rattle.proto_compile.specs.declared.source.Source.{Source};
 
-use proto_base::{Fault, FileError, FileFault, Limits};
+use proto_base::{Fault, FileFault, Limits};
 use proto_compile::{LOCAL_PASS, Source};
-use proto_file::describe;
+use proto_file::own_faults;
 use share_work::phases::DESCRIBING;
 use share_work::{Gate, ItemWork, Plan, each_in_shares};
 use std::alloc::{AllocError, AllocGlobal, Global};
 use std::thread::Threads;
 
-/// Finds the first fault of each source by itself.
+/// Finds the faults of each source by itself.
 #[derive(Drop)]
 struct Finding {
     limits: Limits,
@@ -26,26 +27,21 @@ struct Finding {
 
 impl<'s> ItemWork<Source<'s>> for Finding {
     ghost use Rattle.std.specs.Prelude.{⊤};
-    ghost use Rattle.file_faults.specs.Found.{IsFoundIn};
+    ghost use Rattle.file_faults.specs.OwnFaults.{AreOwnFaults};
 
-    type Out = Option<FileFault>;
+    type Out = Vec<FileFault>;
 
     ghost takes = { λ _ _ _. ⊤ };
 
-    ghost gives = { λ work _ source found. IsFoundIn work.limits source found };
+    ghost gives = { λ work _ source found. AreOwnFaults work.limits source found.items };
 
-    /// What the source describes is let go here, in the worker.
     fn item(
         &self,
         alloc: Global,
         _position: usize,
         source: &Source<'s>,
-    ) -> Result<Option<FileFault>, AllocError> {
-        match describe(alloc, source.name, source.text, &self.limits) {
-            Ok(_) => Ok(None),
-            Err(FileError::First(fault)) => Ok(Some(fault)),
-            Err(FileError::NoMemory) => Err(AllocError),
-        }
+    ) -> Result<Vec<FileFault>, AllocError> {
+        own_faults(alloc, source.name, source.text, &self.limits)
     }
 }
 
@@ -65,15 +61,15 @@ fn named(alloc: Global, name: &str, found: FileFault) -> Result<Fault, AllocErro
 /// Puts what was found in a source behind other faults, with the name of its file.
 fn put_found(
     alloc: Global,
-    source: &Source,
-    found: Option<FileFault>,
     faults: &mut Vec<Fault>,
+    source: &Source,
+    found: &[FileFault],
 ) -> Result<(), AllocError>
     ensures { OnOk result (map told_by faults.new.items
-        ≡ map told_by faults.old.items ++ added_by source.now found []) }
+        ≡ map told_by faults.old.items ++ named_by source.now found.now) }
 {
-    if let Some(fault) = found {
-        faults.push(named(alloc, source.name, fault)?)?;
+    for fault in found {
+        faults.push(named(alloc, source.name, *fault)?)?;
     }
     Ok(())
 }
@@ -82,21 +78,23 @@ fn put_found(
 fn all_named(
     alloc: Global,
     files: &[Source],
-    found: &[Option<FileFault>],
+    found: &[Vec<FileFault>],
 ) -> Result<Vec<Fault>, AllocError>
     requires { length found.now ≡ length files.now }
     ensures { IfOk result (λ faults. map told_by faults.items ≡ faults_in files.now found.now) }
 {
     let mut faults = Vec::new(alloc);
     for (at, source) in files.iter().enumerate() {
-        put_found(alloc, source, found[at], &mut faults)?;
+        put_found(alloc, &mut faults, source, found[at].as_slice())?;
     }
     Ok(faults)
 }
 
-/// The first fault of each source that has one by itself (of its tokens, else of the grammar, else of the rules that one file can
-/// break), in the order of the sources. The first of them is the one that `compile` tells, where the sources stand in the order
-/// of their names and no two have one.
+/// All faults that sources have by themselves (of each the first of its tokens, else that of the grammar, else each rule that one
+/// file can break), in the order of the sources, and within one by place and then by the kind's number, each once.
+///
+/// Where the sources stand in the order of their names, no two have one and they are no more than the limit, these are in the order
+/// of faults, and the first of them is the one that `compile` tells. Where there is any, they are then all faults of the sources.
 ///
 /// Workers share the sources in phase `DESCRIBING` of the gate. What the plan and the gate are changes nothing of the answer.
 pub fn faults_of_files<R, G>(
@@ -115,6 +113,12 @@ where
         → AreByName sources files.now
         → IfOk result (λ faults. (f : Fault) (rest : List Fault) → faults.items ≡ f ∷ rest
         → IsLeastFault limits.now sources (told_by f)) }
+    ensures set { (sources : List Source) → length sources ≤ limit_of limits.now limit.Files
+        → AreByName sources files.now
+        → IfOk result (λ faults. faults.items ≢ []
+        → AreAllFaults limits.now sources (map told_by faults.items)) }
+    ensures order { NamesRise (map name_of files.now)
+        → IfOk result (λ faults. AllPairs IsEarlier (map told_by faults.items)) }
 {
     let work = Finding { limits: *limits };
     let found = each_in_shares(rt, plan, DESCRIBING, gate, files, &work)?;

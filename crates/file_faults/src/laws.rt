@@ -9,8 +9,8 @@ ghost use Rattle.proto_compile.specs.FaultSet.{SourceFault};
 ghost use Rattle.proto_compile.specs.Sources.{name_of, text_of};
 ghost use Rattle.proto_compile.specs.declared.source.Source.{Source};
 
-/// Sources have one list of faults of their own: it tells of each source that has one, and of no other. So it is empty exactly
-/// where none has one.
+/// Sources have one list of the faults that they have by themselves: it has each of them, and no other. So it is empty exactly where
+/// there is none.
 pub fn file_faults_are_all()
     ensures one_list { (limits : Limits) (files : List Source) (xs ys : List SourceFault)
         → AreFileFaults limits files xs → AreFileFaults limits files ys → xs ≡ ys }

@@ -1,4 +1,4 @@
-//! The faults of sources by themselves: of each that has one, the first.
+//! All faults that sources have by themselves.
 //!
 //! The standard is the proto3 language specification and guide.
 #![tactic(auto)]

@@ -1,4 +1,6 @@
 pub mod Among
+pub mod Gains
 pub mod KindOrder
 pub mod Sets
+pub mod SpotOrder
 pub mod Spots

@@ -1,6 +1,6 @@
--- The least of a union, and of the first n elements of a list.
+-- Sets of spots, the least of a union, and the first n elements of a list.
 use Rattle.std.proofs.Common.{◌≡◌, ◌∙◌, sym, ℕ, ◌+◌, ◌<◌, ◌≤◌, List, length, get_or, ap, refl, arith, inl, inr, ◌⊎◌, ⊎_elim, cond}
-use Rattle.std.specs.Prelude.{Option, Some, None, Bool, true, false, ◌↔◌}
+use Rattle.std.specs.Prelude.{Option, Some, None, Bool, true, ◌↔◌}
 use Rattle.std.proofs.lemmas.Bool.{cases_lt}
 use Rattle.std.proofs.lemmas.List.{get_or_default}
 use Rattle.std.specs.declared.cmp.Ordering.{Ordering}
@@ -13,7 +13,9 @@ use denote.Ref.{Bor}
 use Rattle.proto_base.specs.declared.spot.Spot.{Spot}
 use Rattle.proto_base.specs.Least.{IsLeast, IsLeastBy, AtMost}
 use Rattle.proto_base.specs.Lesser.{IsLesser}
-use Rattle.proto_base.specs.Sets.{◌∪◌, StandsAt, Each, Later, Where}
+use Rattle.proto_base.specs.Sets.{◌∪◌, StandsAt, Each, Later}
+
+-- ---- the least of a set
 
 pub least_none : (S : Spot → Type 0) → ((x : Spot) → S x → ⊥) → IsLeast S None
 least_none S h = record { is = h }
@@ -29,10 +31,10 @@ none_of S a p e = (rw e at p).is
 pub least_of : (S : Spot → Type 0) (a : Option Spot) (c : Spot) → IsLeast S a → a ≡ Some c → IsLeastBy AtMost S c
 least_of S a c p e = (rw e at p).is
 
-pub at_most_itself : (a : Spot) → AtMost a a
+at_most_itself : (a : Spot) → AtMost a a
 at_most_itself a = inr (refl, omega arith)
 
-pub at_most_on : (a b c : Spot) → AtMost a b → AtMost b c → AtMost a c
+at_most_on : (a b c : Spot) → AtMost a b → AtMost b c → AtMost a c
 at_most_on a b c h k = grind arith
 
 -- what comes no later than the least comes no later than each
@@ -68,7 +70,18 @@ least_same S U (Some a) back on p = least_some U a (on a p.is.among) (λ x u. p.
 pub least_one : (s : Spot) → IsLeast (λ x. x ≡ s) (Some s)
 least_one s = grind (arith, at_most_itself)
 
--- what the first n elements break
+-- a spot that is known
+least_known : (o : Option Spot) → IsLeast (λ x. o ≡ Some x) o
+least_known o = grind (arith, at_most_itself)
+
+pub lesser_none : (p : Option Spot) → IsLesser p None p
+lesser_none p = record {
+  least = least_same _ _ p (λ x w. grind arith) (λ x e. inl e) (least_known p);
+}
+
+-- ---- the first n elements
+
+-- what the first n elements make by themselves
 abbrev pub EachTo : {X : Type 0} → List X → ℕ → (X → Spot → Type 0) → Spot → Type 0
 EachTo {X} xs n S x = (i : ℕ) × (a : X) × (i < n) × StandsAt xs i a × S a x
 
@@ -76,17 +89,32 @@ EachTo {X} xs n S x = (i : ℕ) × (a : X) × (i < n) × StandsAt xs i a × S a 
 pub one_at : {X : Type 0} (xs : List X) (i j : ℕ) (a b : X) → i ≡ j → StandsAt xs i a → StandsAt xs j b → a ≡ b
 one_at xs i j a b e s t = sym s.1 ∙ ap (λ k. get_or xs k a) e ∙ get_or_default xs j a b t.0 ∙ t.1
 
+-- what a loop over plain structs reads at n
+pub item_at : {X : Type 0} (xs : List X) (n : ℕ) (d : X) → n < length xs → StandsAt xs n (get_or xs n d)
+item_at xs n d h = grind (arith, get_or_default)
+
 module _ {X : Type 0} (xs : List X) (S : X → Spot → Type 0) (n : ℕ) where
-  each_split : (a : X) → StandsAt xs n a → (x : Spot) → EachTo xs (n + 1) S x → EachTo xs n S x ⊎ S a x
-  each_split a here x w = grind (arith, cases_lt, one_at)
+  -- one element more
+  pub each_next : (a : X) → StandsAt xs n a → (x : Spot) → (EachTo xs n S ∪ S a) x ↔ EachTo xs (n + 1) S x
+  each_next a here x = (
+    λ w. elim w [
+      | inl v ↦ (v.0, v.1, omega (arith, v.2), v.3, v.4)
+      | inr s ↦ (n, a, omega arith, here, s)
+    ],
+    λ w. grind (arith, cases_lt, one_at),
+  )
+
+  -- all of them
+  pub each_done : length xs ≤ n → (x : Spot) → EachTo xs n S x ↔ Each xs S x
+  each_done end x = (λ w. grind arith, λ w. grind arith)
 
   pub each_more : (a : X) (p q r : Option Spot) → StandsAt xs n a → IsLeast (EachTo xs n S) p → IsLeast (S a) q
       → IsLesser p q r → IsLeast (EachTo xs (n + 1) S) r
-  each_more a p q r here h k w = least_or _ _ _ p q r (each_split a here)
-      (λ x v. (v.0, v.1, omega (arith, v.2), v.3, v.4)) (λ x s. (n, a, omega arith, here, s)) h k w
+  each_more a p q r here h k w = least_or _ _ _ p q r (λ x. (each_next a here x).1)
+      (λ x v. (each_next a here x).0 (inl v)) (λ x s. (each_next a here x).0 (inr s)) h k w
 
   pub each_all : (r : Option Spot) → length xs ≤ n → IsLeast (EachTo xs n S) r → IsLeast (Each xs S) r
-  each_all r end h = grind (arith, least_same)
+  each_all r end h = least_same _ _ r (λ x. (each_done end x).1) (λ x. (each_done end x).0) h
 
 -- clashes of the first n elements
 abbrev pub LaterTo : {X : Type 0} → List X → ℕ → (X → X → Type 0) → (X → Spot) → Spot → Type 0
@@ -109,28 +137,26 @@ module _ {X : Type 0} (xs : List X) (R : X → X → Type 0) (at : X → Spot) (
   later_old : (x : Spot) → LaterTo xs n R at x → LaterTo xs (n + 1) R at x
   later_old x w = grind arith
 
-  pub later_clash : (c : X) (p r : Option Spot) → StandsAt xs n c → HasEarlier xs n R c → IsLeast (LaterTo xs n R at) p
-      → IsLesser p (Some (at c)) r → IsLeast (LaterTo xs (n + 1) R at) r
-  later_clash c p r here early h w = least_or _ (λ x. x ≡ at c) _ p (Some (at c)) r
-      (λ x v. grind (arith, later_split c here x v)) later_old
-      (λ x e. (early.0, n, early.1, c, early.2, omega arith, early.3, here, early.4, e)) h (least_one (at c)) w
+  -- one element more, which clashes
+  pub later_clash : (c : X) → StandsAt xs n c → HasEarlier xs n R c → (x : Spot)
+      → (LaterTo xs n R at ∪ (λ y. y ≡ at c)) x ↔ LaterTo xs (n + 1) R at x
+  later_clash c here early x = (
+    λ w. elim w [
+      | inl v ↦ later_old x v
+      | inr e ↦ (early.0, n, early.1, c, early.2, omega arith, early.3, here, early.4, e)
+    ],
+    λ v. grind (arith, later_split c here x v),
+  )
 
-  pub later_skip : (c : X) (p : Option Spot) → StandsAt xs n c → (HasEarlier xs n R c → ⊥)
-      → IsLeast (LaterTo xs n R at) p → IsLeast (LaterTo xs (n + 1) R at) p
-  later_skip c p here none h = least_same _ _ p (λ x v. grind (arith, later_split c here x v)) later_old h
+  -- one that does not
+  pub later_skip : (c : X) → StandsAt xs n c → (HasEarlier xs n R c → ⊥) → (x : Spot)
+      → LaterTo xs n R at x ↔ LaterTo xs (n + 1) R at x
+  later_skip c here none x = (later_old x, λ v. grind (arith, later_split c here x v))
 
-  pub later_all : (r : Option Spot) → length xs ≤ n → IsLeast (LaterTo xs n R at) r → IsLeast (Later xs R at) r
-  later_all r end h = least_same _ _ r (λ x v. grind arith) (λ x v. grind arith) h
+  pub later_done : length xs ≤ n → (x : Spot) → LaterTo xs n R at x ↔ Later xs R at x
+  later_done end x = (λ w. grind arith, λ w. grind arith)
 
--- what holds of the first n elements, or of B
-abbrev pub WithTo : {X : Type 0} → (Spot → Type 0) → List X → ℕ → (X → Spot → Type 0) → Spot → Type 0
-WithTo {X} B xs n S x = B x ⊎ EachTo xs n S x
-
-pub with_more : {X : Type 0} (B : Spot → Type 0) (xs : List X) (S : X → Spot → Type 0) (n : ℕ) (a : X)
-    (p q r : Option Spot) → StandsAt xs n a → IsLeast (WithTo B xs n S) p → IsLeast (S a) q → IsLesser p q r
-    → IsLeast (WithTo B xs (n + 1) S) r
-with_more B xs S n a p q r here h k w = least_or _ _ _ p q r (λ x v. grind (arith, each_split xs S n a here x))
-    (λ x v. grind arith) (λ x s. inr (n, a, omega arith, here, s)) h k w
+-- ---- tables of keys
 
 -- keys that compare equal are those with one value
 abbrev pub Exact : {K T : Type 0} → (K → K → Ordering) → (K → T) → Type 0
@@ -157,53 +183,9 @@ module _ {X K T : Type 0} (cmp : K → K → Ordering) (show : K → T) (key : X
   Seen xs s n = (q : K)
       → (contains cmp s q ≡ true) ↔ ((i : ℕ) × (a : X) × (i < n) × StandsAt xs i a × (key a ≡ show q))
 
-  -- what a pass with a table keeps
-  pub record Passed (at : X → Spot) (xs : List X) (s : BTreeSet K) (n : ℕ) (first : Option Spot) : Type 0 where
-    pub least : IsLeast (LaterTo xs n (λ a b. key a ≡ key b) at) first
-    pub seen : Seen xs s n
-
-  seen_more : (xs : List X) (s t : BTreeSet K) (n : ℕ) (c : X) (k : K) → Exact cmp show → StandsAt xs n c
+  pub seen_more : (xs : List X) (s t : BTreeSet K) (n : ℕ) (c : X) (k : K) → Exact cmp show → StandsAt xs n c
       → show k ≡ key c → Updates cmp s t k true → Seen xs s n → Seen xs t (n + 1)
   seen_more xs s t n c k exact here e new seen q = (
     λ h. grind (arith, cond_or (is_eq (cmp k q)) (contains cmp s q), new.0 q, exact k q, seen q),
     λ w. grind (arith, cases_lt w.0 n, cond_right (is_eq (cmp k q)), new.0 q, exact k q, seen q, one_at xs n w.0 c w.1),
   )
-
-  module _ (at : X → Spot) (xs : List X) (s t : BTreeSet K) (n : ℕ) (c : X) (k : K) where
-    pub passed_clash : (p r : Option Spot) → Exact cmp show → StandsAt xs n c → show k ≡ key c → Updates cmp s t k true
-        → contains cmp s k ≡ true → Passed at xs s n p → IsLesser p (Some (at c)) r → Passed at xs t (n + 1) r
-    passed_clash p r exact here e new old h w = record {
-      least = later_clash xs (λ a b. key a ≡ key b) at n c p r here (grind (arith, (h.seen k).0 old)) h.least w;
-      seen = seen_more xs s t n c k exact here e new h.seen;
-    }
-
-    pub passed_skip : (p : Option Spot) → Exact cmp show → StandsAt xs n c → show k ≡ key c → Updates cmp s t k true
-        → contains cmp s k ≡ false → Passed at xs s n p → Passed at xs t (n + 1) p
-    passed_skip p exact here e new fresh h = record {
-      least = later_skip xs (λ a b. key a ≡ key b) at n c p here (λ w. grind (arith, h.seen k)) h.least;
-      seen = seen_more xs s t n c k exact here e new h.seen;
-    }
-
--- of two sets
-pub least_union : {S T : Spot → Type 0} {a b r : Option Spot} → IsLeast S a → IsLeast T b → IsLesser a b r
-    → IsLeast (S ∪ T) r
-least_union {S} {T} {a} {b} {r} p q w = least_or S T (S ∪ T) a b r (λ x v. v) (λ x s. inl s) (λ x t. inr t) p q w
-
--- what a loop over plain structs reads at n
-pub item_at : {X : Type 0} (xs : List X) (n : ℕ) (d : X) → n < length xs → StandsAt xs n (get_or xs n d)
-item_at xs n d h = grind (arith, get_or_default)
-
-pub least_hit : (P : Type 0) (s : Spot) → P → IsLeast (Where P s) (Some s)
-least_hit P s p = grind (arith, at_most_itself)
-
-pub least_miss : (P : Type 0) (s : Spot) → (P → ⊥) → IsLeast (Where P s) None
-least_miss P s h = least_none (Where P s) (λ x w. h w.0)
-
--- a spot that is known
-pub least_known : (o : Option Spot) → IsLeast (λ x. o ≡ Some x) o
-least_known o = grind (arith, at_most_itself)
-
-pub lesser_none : (p : Option Spot) → IsLesser p None p
-lesser_none p = record {
-  least = least_same _ _ p (λ x w. grind arith) (λ x e. inl e) (least_known p);
-}

@@ -9,6 +9,7 @@ use Rattle.proto_base.specs.Least.{AtMost, spot}
 use Rattle.proto_base.specs.contracts.kind.Kind.{the_type}
 use Rattle.proto_base.specs.declared.kind.Kind.{Kind}
 use Rattle.proto_base.specs.declared.place.Place.{Place}
+use Rattle.proto_base.specs.declared.spot.Spot.{Spot}
 
 pub same_kind : (a b : Kind) → number_of a ≡ number_of b → a ≡ b
 same_kind a b e = same_true the_type tt a b
@@ -16,6 +17,11 @@ same_kind a b e = same_true the_type tt a b
 
 pub same_place : (p q : Place) → p.offset ≡ q.offset → p ≡ q
 same_place p q e = let place : ℕ → Place = λ n. record { offset = n } in ap place e
+
+-- spots of one place and kind are one
+pub same_spot : (x y : Spot) → x.place.offset ≡ y.place.offset → x.kind ≡ y.kind → x ≡ y
+same_spot x y place kind =
+    ap (λ p. spot p x.kind) (same_place x.place y.place place) ∙ ap (spot y.place) kind
 
 pub one_spot : (p q : Place) (k l : Kind) → AtMost (spot p k) (spot q l) → AtMost (spot q l) (spot p k)
     → (p ≡ q) × (k ≡ l)

@@ -13,10 +13,15 @@ pub record IsLeastBy {X : Type 0} (NoLater : X → X → Type 0) (S : X → Type
 abbrev pub spot : Place → Kind → Spot
 spot p k = record { place = p; kind = k }
 
--- by place, then by the kind's number
+-- a comes no later than b: by place, then by the kind's number
 abbrev pub AtMost : Spot → Spot → Type 0
 AtMost a b =
     (a.place.offset < b.place.offset) ⊎ ((a.place.offset ≡ b.place.offset) × (number_of a.kind ≤ number_of b.kind))
+
+-- a comes before b
+abbrev pub Precedes : Spot → Spot → Type 0
+Precedes a b =
+    (a.place.offset < b.place.offset) ⊎ ((a.place.offset ≡ b.place.offset) × (number_of a.kind < number_of b.kind))
 
 -- the least of a set, None only where it is empty
 pub record IsLeast (S : Spot → Type 0) (first : Option Spot) : Type 0 where

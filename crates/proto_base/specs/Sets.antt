@@ -1,5 +1,5 @@
--- Sets of spots that the elements of a list make.
-use Rattle.std.specs.Prelude.{◌≡◌, ℕ, ◌<◌, ◌⊎◌, List, length, slice_index_or}
+-- Sets of spots: those that the elements of a list make, and those that are put into a list.
+use Rattle.std.specs.Prelude.{◌≡◌, ℕ, ◌<◌, ◌⊎◌, ◌↔◌, List, Contains, length, slice_index_or}
 use Rattle.proto_base.specs.declared.spot.Spot.{Spot}
 
 infixl 25 ◌∪◌
@@ -22,3 +22,7 @@ Each {X} xs S x = (i : ℕ) × (a : X) × StandsAt xs i a × S a x
 -- what two elements make together, at the later one
 abbrev pub Later : {X : Type 0} → List X → (X → X → Type 0) → (X → Spot) → Spot → Type 0
 Later {X} xs R at x = (i j : ℕ) × (a b : X) × (i < j) × StandsAt xs i a × StandsAt xs j b × R a b × (x ≡ at b)
+
+-- the new list has the spots of the old one and those of S, and no other
+pub record Gains (S : Spot → Type 0) (old new : List Spot) : Type 0 where
+  pub are : (x : Spot) → Contains new x ↔ (Contains old x ⊎ S x)

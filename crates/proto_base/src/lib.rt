@@ -18,4 +18,4 @@ pub use file_fault::{FileError, FileFault, ONLY_STEP};
 pub use kind::Kind;
 pub use limits::{Limit, Limits};
 pub use place::{Place, Span, line_column};
-pub use spot::{Spot, lesser};
+pub use spot::{Spot, lesser, sort_spots};

@@ -1,6 +1,9 @@
-//! What is wrong at a place, and which of two such faults comes first.
+//! What is wrong at a place, and which of such faults comes first.
 
+ghost use Rattle.std.specs.Prelude.{◌↔◌, AllPairs, Contains};
+ghost use Rattle.proto_base.specs.Least.{Precedes};
 ghost use Rattle.proto_base.specs.Lesser.{IsLesser};
+ghost use Rattle.proto_base.specs.declared.spot.Spot.{Spot};
 
 use crate::kind::Kind;
 use crate::place::Place;
@@ -21,4 +24,13 @@ pub fn lesser(a: Option<Spot>, b: Option<Spot>) -> Option<Spot>
         (Some(x), None) => Some(x),
         (None, other) => other,
     }
+}
+
+/// Sorts spots, and keeps each of them once.
+pub fn sort_spots(spots: &mut Vec<Spot>)
+    ensures same { (x : Spot) → Contains spots.new.items x ↔ Contains spots.old.items x }
+    ensures order { AllPairs Precedes spots.new.items }
+{
+    spots.sort_unstable();
+    spots.dedup();
 }

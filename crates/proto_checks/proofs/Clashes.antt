@@ -1,5 +1,5 @@
 -- Elements that clash with earlier ones.
-use Rattle.proto_checks.proofs.Common.{◌≡◌, refl, ℕ, zero, suc, leb, ◌+◌, ◌-◌, ◌%◌, ◌<◌, inl, inr, ◌⊎◌, List, [], ◌∷◌, ◌++◌, length, get_or, take, set, map, arith, Bool, true, false, Option, Some, None, ◌↔◌, ◌&&◌, nat_lt, AllAdjacentBelow, list_any, both_ways, cases_lt, false≢true, nat_tests, common_steps, get_or_default, get_or-take, length-take-le, get_or-append-add, Any-from_list_any, list_any-from_Any, Spot, IsLeast, spot, IsLesser, ◌∪◌, StandsAt, Each, Later, Where, later_short, least_single, LaterTo, one_at, later_clash, later_skip, least_union, least_same, lesser_none, item_at, least_none, PackageTwice, Marked, NumberTwice, ReservedOverlap, MarkedNumber, MarkedRange}
+use Rattle.proto_checks.proofs.Common.{◌≡◌, refl, ℕ, zero, suc, leb, ◌+◌, ◌-◌, ◌%◌, ◌<◌, inl, inr, ◌⊎◌, List, [], ◌∷◌, ◌++◌, length, get_or, take, set, map, arith, Bool, true, false, ◌↔◌, ◌&&◌, nat_lt, AllAdjacentBelow, list_any, both_ways, cases_lt, false≢true, nat_tests, common_steps, get_or_default, get_or-take, length-take-le, get_or-append-add, Any-from_list_any, list_any-from_Any, Spot, spot, ◌∪◌, StandsAt, Each, Later, Where, Gains, HasEarlier, each_single, gains_none, gains_same, gains_union, item_at, later_short, one_at, PackageTwice, Marked, NumberTwice, ReservedOverlap, MarkedNumber, MarkedRange}
 use Rattle.std.specs.Bool.{Decides}
 use Rattle.proto_base.specs.declared.kind.Kind.{Kind}
 use Rattle.proto_base.specs.declared.kind.Kind.TheVariants as kind
@@ -10,16 +10,14 @@ pub stands_made : {X Y : Type 0} (f : X → Y) (xs : List X) (n : ℕ) (a : X) �
     → StandsAt (map f xs) n (f a)
 stands_made f xs n a below is = grind (arith, common_steps)
 
-module _ {X : Type 0} (xs : List X) (R : X → X → Type 0) (at : X → Spot) (test : X → Bool) (n : ℕ) (c : X)
+-- the test finds the elements that clash with c
+module _ {X : Type 0} (xs : List X) (R : X → X → Type 0) (test : X → Bool) (n : ℕ) (c : X)
     (told : (a : X) → Decides (test a) (R a c)) (here : StandsAt xs n c) where
-  -- the test finds the elements that clash with c
-  pub few_clash : (p r : Option Spot) → list_any test (take n xs) ≡ true → IsLeast (LaterTo xs n R at) p
-      → IsLesser p (Some (at c)) r → IsLeast (LaterTo xs (n + 1) R at) r
-  few_clash p r some h w = grind (arith, both_ways, get_or-take, length-take-le, Any-from_list_any, later_clash)
+  pub few_has : list_any test (take n xs) ≡ true → HasEarlier xs n R c
+  few_has some = grind (arith, get_or-take, length-take-le, Any-from_list_any)
 
-  pub few_skip : (p : Option Spot) → list_any test (take n xs) ≡ false → IsLeast (LaterTo xs n R at) p
-      → IsLeast (LaterTo xs (n + 1) R at) p
-  few_skip p none h = grind (arith, both_ways, get_or-take, length-take-le, list_any-from_Any, later_skip)
+  pub few_lacks : list_any test (take n xs) ≡ false → HasEarlier xs n R c → ⊥
+  few_lacks none early = grind (arith, both_ways, get_or-take, length-take-le, list_any-from_Any)
 
 -- the lengths of the first n texts are taken
 abbrev pub AreTaken : List Marked → ℕ → List Bool → Type 0
@@ -30,10 +28,10 @@ pub taken_more : (ts : List Marked) (n : ℕ) (taken : List Bool) (c : Marked) �
 taken_more ts n taken c size here old i a below there = grind (arith, common_steps, cases_lt, one_at)
 
 -- a text of another length than all before it
-pub untaken_skip : (ts : List Marked) (at : Marked → Spot) (n : ℕ) (taken : List Bool) (c : Marked) (p : Option Spot)
-    → StandsAt ts n c → AreTaken ts n taken → get_or taken (length c.text % 64) false ≡ false
-    → IsLeast (LaterTo ts n (λ a b. a.text ≡ b.text) at) p → IsLeast (LaterTo ts (n + 1) (λ a b. a.text ≡ b.text) at) p
-untaken_skip ts at n taken c p here old free h = grind (arith, both_ways, later_skip)
+pub untaken_lacks : (ts : List Marked) (n : ℕ) (taken : List Bool) (c : Marked) → StandsAt ts n c
+    → AreTaken ts n taken → get_or taken (length c.text % 64) false ≡ false
+    → HasEarlier ts n (λ a b. a.text ≡ b.text) c → ⊥
+untaken_lacks ts n taken c here old free early = grind (arith, both_ways)
 
 -- within two lists, and across them
 module _ {X : Type 0} (R : X → X → Type 0) (at : X → Spot) (xs ys : List X) where
@@ -64,9 +62,8 @@ module _ {X : Type 0} (R : X → X → Type 0) (at : X → Spot) (xs ys : List X
   of_part x (inl (inr w)) = grind (arith, stands_right w.0 w.2 w.5, stands_right w.1 w.3 w.6)
   of_part x (inr w) = grind (arith, stands_left, stands_right w.0 w.1 w.2)
 
-  pub later_append : (a b p c r : Option Spot) → IsLeast (Later xs R at) a → IsLeast (Later ys R at) b
-      → IsLesser a b p → IsLeast (Each ys Across) c → IsLesser p c r → IsLeast (Later (xs ++ ys) R at) r
-  later_append a b p c r h k l m o = least_same InParts _ r part_of of_part (least_union (least_union h k l) m o)
+  pub later_append : (x : Spot) → InParts x ↔ Later (xs ++ ys) R at x
+  later_append x = (of_part x, part_of x)
 
 -- lists that rise: each element stands before the next, by a test that carries over
 abbrev pub Rises : {X : Type 0} → (X → X → Bool) → List X → Type 0
@@ -81,23 +78,22 @@ module _ {X : Type 0} (before : X → X → Bool)
       grind (arith, cases_lt i k, up k d, on (get_or xs i d) (get_or xs k d), before_far i k d)
 
   -- none that clashes stands before another
-  rising_none : (R : X → X → Type 0) (at : X → Spot) → ((a b : X) → true ≡ before a b → R a b → ⊥)
-      → IsLeast (Later xs R at) None
-  rising_none R at apart =
-      least_none (Later xs R at) (λ x w. grind (arith, before_far w.0 w.1 w.2, apart w.2 w.3, get_or_default))
+  rising_none : (R : X → X → Type 0) (at : X → Spot) → ((a b : X) → true ≡ before a b → R a b → ⊥) → (x : Spot)
+      → Later xs R at x → ⊥
+  rising_none R at apart x w = grind (arith, before_far w.0 w.1 w.2, apart w.2 w.3, get_or_default)
 
 abbrev pub is_less : MarkedNumber → MarkedNumber → Bool
 is_less a b = nat_lt a.number b.number
 
-pub numbers_none : (k : Kind) (ns : List MarkedNumber) → Rises is_less ns → IsLeast (NumberTwice k ns) None
-numbers_none k ns up =
+pub numbers_none : (ns : List MarkedNumber) → Rises is_less ns → (k : Kind) (x : Spot) → NumberTwice k ns x → ⊥
+numbers_none ns up k =
     rising_none is_less (λ a b c h l. grind (arith, nat_tests)) ns up _ _ (λ a b h e. grind (arith, nat_tests))
 
 -- a range that is not backwards ends before the next
 abbrev pub is_apart : MarkedRange → MarkedRange → Bool
 is_apart a b = leb a.start a.end && nat_lt a.end b.start
 
-pub ranges_none : (rs : List MarkedRange) → Rises is_apart rs → IsLeast (ReservedOverlap rs) None
+pub ranges_none : (rs : List MarkedRange) → Rises is_apart rs → (x : Spot) → ReservedOverlap rs x → ⊥
 ranges_none rs up =
     rising_none is_apart (λ a b c h l. grind (arith, nat_tests)) rs up _ _ (λ a b h e. grind (arith, nat_tests))
 
@@ -106,25 +102,32 @@ abbrev pub again : Package → Spot
 again p = spot p.keyword.start kind.PackageTwice
 
 -- what a loop over packages keeps
-pub record Repeated (ps : List Package) (is_named : Bool) (first : Option Spot) : Type 0 where
+pub record Repeated (ps : List Package) (is_named : Bool) (old new : List Spot) : Type 0 where
   pub named : (is_named ≡ true) ↔ (0 < length ps)
-  pub least : IsLeast (PackageTwice ps) first
+  pub gains : Gains (PackageTwice ps) old new
 
-pub repeated_more : (ps : List Package) (p : Package) (is_named : Bool) (a b r : Option Spot) → Repeated ps is_named a
-    → IsLeast (Where (is_named ≡ true) (again p)) b → IsLesser a b r → Repeated (ps ++ p ∷ []) true r
-repeated_more ps p is_named a b r h k w =
+pub repeated_more : (ps : List Package) (p : Package) {is_named : Bool} {old mid new : List Spot}
+    → Repeated ps is_named old mid → Gains (Where (is_named ≡ true) (again p)) mid new
+    → Repeated (ps ++ p ∷ []) true old new
+repeated_more ps p h k =
     let Any = λ (a b : Package). Unit {0} in
-    let across = least_same (Where (is_named ≡ true) (again p)) (Across Any again ps (p ∷ []) p) b
-    (λ x v. (h.named.1 (omega (arith, v.0.2.0)), v.1))
-    (λ x v. ((0, get_or ps 0 p, item_at ps 0 p (h.named.0 v.0), tt), v.1)) k in
+    let across : Gains (Across Any again ps (p ∷ []) p) _ _ = gains_same k (λ x. (
+      λ v. ((0, get_or ps 0 p, item_at ps 0 p (h.named.0 v.0), tt), v.1),
+      λ v. (h.named.1 (omega (arith, v.0.2.0)), v.1),
+    )) in
+    let alone = gains_none (later_short (p ∷ []) Any again (omega arith)) in
     record {
       named = (λ e. grind (arith, common_steps), λ some. refl);
-      least = later_append Any again ps (p ∷ []) a None a b r h.least (later_short (p ∷ []) Any again (omega arith))
-          (lesser_none a) (least_single _ p b across) w;
+      gains = gains_same
+          (gains_union (gains_union h.gains alone) (gains_same across (each_single (Across Any again ps (p ∷ [])) p)))
+          (later_append Any again ps (p ∷ []));
     }
 
-pub repeated_none : Repeated [] false None
-repeated_none = grind (arith, false≢true, later_short)
+pub repeated_none : {xs : List Spot} → Repeated [] false xs xs
+repeated_none = record {
+  named = grind (arith, false≢true);
+  gains = gains_none (later_short [] (λ a b. Unit {0}) again (omega arith));
+}
 
 -- a test of elements, and of what is made of them
 pub any_made : {A B : Type 0} (test : B → Bool) (view : A → B) (xs : List A)

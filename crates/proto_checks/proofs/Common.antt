@@ -1,20 +1,20 @@
 -- What many proofs of this crate cite, passed on from one place.
-pub use Rattle.std.proofs.Common.{◌≡◌, refl, ℕ, zero, suc, leb, ◌+◌, ◌-◌, ◌%◌, ◌<◌, inl, inr, ◌⊎◌, List, [], ◌∷◌, ◌++◌, length, get_or, take, set, map, arith, Bool, true, false, Option, Some, None, ◌↔◌, ◌&&◌, nat_lt, flat_map, ◌≤◌, drop, drop-cons, ap, add-one, append_assoc, Contains, max, ◌∙◌, sym, rules, All, bytes_eq, find, option_map, unwrap_or, take_all, is_some, tests, nat_cmp, is_eq}
+pub use Rattle.std.proofs.Common.{◌≡◌, refl, ℕ, zero, suc, leb, ◌+◌, ◌-◌, ◌%◌, ◌<◌, inl, inr, ◌⊎◌, List, [], ◌∷◌, ◌++◌, length, get_or, take, set, map, arith, Bool, true, false, Option, Some, None, ◌↔◌, ◌&&◌, nat_lt, flat_map, ◌≤◌, drop, drop-cons, ap, add-one, append_assoc, Contains, max, ◌∙◌, sym, rules, All, bytes_eq, find, option_map, unwrap_or, take_all, tests, nat_cmp, is_eq}
 pub use Rattle.std.proofs.lemmas.Bool.{both_ways, cases_lt, false≢true, and_from, and_parts, not-false, not-true}
 pub use Rattle.std.proofs.lemmas.Bool.Decides.{nat_tests, Decides-eqb}
 pub use Rattle.std.proofs.lemmas.Grind.{common_steps}
 pub use Rattle.std.proofs.lemmas.Iterator.Search.{find_from_yields_List, any_from_yields_List}
-pub use Rattle.std.proofs.lemmas.List.{get_or_default, get_or-take, length-take-le, get_or-append-add, take_more_set, drop-set-lt, append-nil, take_at, map-append, length-map, length-set, take-map, take_more}
+pub use Rattle.std.proofs.lemmas.List.{get_or_default, get_or-take, length-take-le, get_or-append-add, take_more_set, drop-set-lt, append-nil, take_at, map-append, length-map, length-set, take-map, take_more, map-id}
 pub use Rattle.std.proofs.lemmas.List.Elements.{Contains-append_left, Contains-get_or, Contains-push, Contains-push_cases, All-contains}
 pub use Rattle.std.proofs.lemmas.List.Folds.{Any-from_list_any, list_any-from_Any, flat_map-map, find_at}
 pub use Rattle.std.proofs.lemmas.List.Sorted.{Contains-permutation, IsPermutation-sym, IsPartitionedBy-leb, IsNonDecreasingBy-from_sort_by_key, answers_always}
-pub use Rattle.std.proofs.lemmas.Result.{IfOk-weaker}
+pub use Rattle.std.proofs.lemmas.Result.{on_ok_weaker}
 pub use Rattle.std.specs.List.{AllAdjacentBelow, list_any, position_or_len}
-pub use Rattle.proto_base.proofs.Among.{later_short, least_single, flat_more, each_flat, flat_each, least_nil, each_on, later_map, behind_more, behind_skip, each_map, least_append, each_union, least_cons, behind_none, behind_all, flat_all, flat_skip, taken, with_rest}
-pub use Rattle.proto_base.proofs.Sets.{LaterTo, one_at, later_clash, later_skip, least_union, least_same, lesser_none, item_at, least_none, at_most_itself, EachTo, each_more, least_known, each_all, least_hit, least_miss, with_more, WithTo, exact_number, later_all, passed_clash, passed_skip, Passed, exact_text, text_cmp, cond_or, cond_right}
-pub use Rattle.proto_base.specs.Least.{IsLeast, spot}
-pub use Rattle.proto_base.specs.Lesser.{IsLesser}
-pub use Rattle.proto_base.specs.Sets.{◌∪◌, StandsAt, Each, Later, Where}
+pub use Rattle.proto_base.proofs.Among.{each_as, each_cons, each_append, each_flat, each_map, each_nil, each_single, each_union, later_map, later_short, taken}
+pub use Rattle.proto_base.proofs.Gains.{clashes_all, clashes_hit, clashes_skip, clashes_start, ClashesTo, gains_all, gains_as, gains_each, gains_hit, gains_last, gains_miss, gains_next, gains_pass, gains_none, gains_one, gains_same, gains_skip, gains_start, gains_union, gains_where, GainsTo, Passed, passed_hit, passed_skip}
+pub use Rattle.proto_base.proofs.Sets.{HasEarlier, cond_or, cond_right, exact_number, exact_text, item_at, one_at, text_cmp}
+pub use Rattle.proto_base.specs.Least.{spot}
+pub use Rattle.proto_base.specs.Sets.{◌∪◌, StandsAt, Each, Later, Where, Gains}
 pub use Rattle.proto_base.specs.declared.spot.Spot.{Spot}
 pub use Rattle.proto_checks.specs.Checks.{PackageTwice, MessageNames, names_step, names_of, IsTooLong, MessageNamesBreak, PackageTooLong, IsPartTooLong}
 pub use Rattle.proto_checks.specs.Elements.{bodies_of, bodies_row, bodies, BodyBreaks, EnumBreaks, OneofBreaks}

@@ -1,8 +1,8 @@
 pub mod Clashes
 mod Common
+pub mod Earliest
 pub mod Elements
 pub mod Intervals
 pub mod Items
 pub mod Named
-pub mod Rules
 pub mod Settling

@@ -1,5 +1,5 @@
 -- Settings by the rules of their element.
-use Rattle.proto_checks.proofs.Common.{◌≡◌, ◌∙◌, refl, inl, inr, ◌⊎◌, arith, rules, ℕ, Bool, true, false, List, [], ◌∷◌, map, Option, Some, None, Contains, All, bytes_eq, find, option_map, unwrap_or, All-contains, find_at, position_or_len, IsLeast, spot, IsLesser, name_place, SettingBreaks, SettingsBreak, is_known_by, judged, IsFaultOf, JudgedTwice, Each, Spot, each_on, later_map, later_short, least_single, least_known, least_union, lesser_none}
+use Rattle.proto_checks.proofs.Common.{◌≡◌, ◌∙◌, refl, inl, inr, ◌⊎◌, arith, rules, ℕ, Bool, true, false, List, [], ◌∷◌, map, Option, Some, None, Contains, All, bytes_eq, find, option_map, unwrap_or, All-contains, find_at, position_or_len, ◌↔◌, spot, name_place, SettingBreaks, SettingsBreak, is_known_by, judged, IsFaultOf, JudgedTwice, Each, Gains, Spot, each_as, each_map, each_single, gains_none, gains_same, gains_union, later_map, later_short}
 use Rattle.std.proofs.lemmas.List.Sums.{fails_before_first, passes_at_first}
 use Rattle.std.proofs.lemmas.Option.{slice_get_cases}
 use Rattle.std.proofs.lemmas.Slice.Eq.{bytes_eq-Decides}
@@ -57,18 +57,24 @@ fault_of e s x (inl w) = grind (arith, find_told (is_known_by s) (rules_of e))
 fault_of e s x (inr ((r, held, named, bad), is)) =
     rw (found_only (simple_name s.name.rest s.name.first) e r held named, bad, is) refl
 
-pub setting_least : (e : Element) (ss : List Setting) (r : Option Spot) → IsLeast (Each (map (judged e) ss) IsFaultOf) r
-    → IsLeast (Each ss (SettingBreaks e)) r
-setting_least e ss r h = each_on (judged e) ss IsFaultOf (SettingBreaks e) r (breaks_by e) (fault_of e) h
+-- settings, and what is judged of them
+setting_same : (e : Element) (ss : List Setting) (x : Spot) → Each (map (judged e) ss) IsFaultOf x
+    ↔ Each ss (SettingBreaks e) x
+setting_same e ss x =
+    let made = each_map IsFaultOf (judged e) ss x in
+    let each = each_as (λ s. IsFaultOf (judged e s)) (SettingBreaks e) ss
+    (λ s y. (breaks_by e s y, fault_of e s y)) x in
+    (λ w. each.0 (made.1 w), λ w. made.0 (each.1 w))
 
-pub judged_least : (js : List Judged) (a b r : Option Spot) → IsLeast (Each js IsFaultOf) a → IsLeast (JudgedTwice js) b
-    → IsLesser a b r
-    → (e : Element) (ss : List Setting) → js ≡ map (judged e) ss → IsLeast (SettingsBreak e ss) r
-judged_least js a b r h k w e ss made =
-    least_union (setting_least e ss a (rw made at h)) (later_map (λ (a b : Judged). a.name ≡ b.name)
-    (λ b. spot b.place kind.OptionTwice) (judged e) ss b (rw made at k)) w
+pub judged_break : {js : List Judged} {old mid new : List Spot} → Gains (Each js IsFaultOf) old mid
+    → Gains (JudgedTwice js) mid new
+    → (e : Element) (ss : List Setting) → js ≡ map (judged e) ss → Gains (SettingsBreak e ss) old new
+judged_break h k e ss made = gains_union (gains_same (rw made at h) (setting_same e ss))
+    (gains_same (rw made at k) (later_map (λ (a b : Judged). a.name ≡ b.name)
+    (λ b. spot b.place kind.OptionTwice) (judged e) ss))
 
-pub one_least : (e : Element) (s : Setting) → IsLeast (SettingsBreak e (s ∷ [])) (setting_fault e s)
-one_least e s = least_union
-    (setting_least e (s ∷ []) _ (least_single IsFaultOf (judged e s) _ (least_known (setting_fault e s))))
-    (later_short (s ∷ []) _ (λ t. spot (name_place t) kind.OptionTwice) (omega arith)) (lesser_none (setting_fault e s))
+pub one_breaks : (e : Element) (s : Setting) {old new : List Spot} → Gains (λ x. setting_fault e s ≡ Some x) old new
+    → Gains (SettingsBreak e (s ∷ [])) old new
+one_breaks e s h = gains_union
+    (gains_same (gains_same h (λ x. (breaks_by e s x, fault_of e s x))) (each_single (SettingBreaks e) s))
+    (gains_none (later_short (s ∷ []) _ (λ t. spot (name_place t) kind.OptionTwice) (omega arith)))

@@ -1,17 +1,16 @@
 //! Rules on enums (language guide, "Enumerations").
 
-ghost use Rattle.std.specs.Prelude.{◌≡◌, IfOk};
+ghost use Rattle.std.specs.Prelude.{◌≡◌, OnOk};
 ghost use Rattle.std.specs.List.{list_any};
 ghost use Rattle.proto_options.specs.Statements.{enum_value};
 ghost use Rattle.proto_checks.specs.Elements.{IsEmptyEnum, ValueBreaks, EnumBreaks};
 ghost use Rattle.proto_checks.specs.Parts.{is_value};
-ghost use Rattle.proto_base.specs.Least.{IsLeast};
-ghost use Rattle.proto_base.specs.Sets.{Each};
+ghost use Rattle.proto_base.specs.Sets.{Each, Gains};
 
-use crate::each::{Check, first_of};
-use crate::least::least_of;
-use crate::numbers::first_enum_number_fault;
-use crate::settings::{bracketed_settings_fault, statement_settings_fault};
+use crate::each::{Check, put_each};
+use crate::faults::put_fault;
+use crate::numbers::put_enum_number_faults;
+use crate::settings::{put_bracketed_setting_faults, put_statement_setting_faults};
 use proto_base::{Kind, Spot};
 use proto_desc::rules::Element;
 use proto_tree::{Enum, EnumItem, EnumValue};
@@ -23,44 +22,48 @@ fn has_value(items: &[EnumItem]) -> bool
     items.iter().any(|item| matches!(item, EnumItem::Value(_)))
 }
 
-fn empty_fault(declared: &Enum) -> Option<Spot>
-    ensures { IsLeast (IsEmptyEnum declared.now) result }
+fn put_empty(faults: &mut Vec<Spot>, declared: &Enum) -> Result<(), AllocError>
+    ensures { OnOk result (Gains (IsEmptyEnum declared.now) faults.old.items faults.new.items) }
 {
     if has_value(declared.items.as_slice()) {
-        None
+        Ok(())
     } else {
-        Some(Spot {
-            place: declared.name.span.start,
-            kind: Kind::EnumEmpty,
-        })
+        put_fault(faults, declared.name.span.start, Kind::EnumEmpty)
     }
 }
 
-fn value_fault(alloc: Global, value: &EnumValue) -> Result<Option<Spot>, AllocError>
-    ensures { IfOk result (λ first. IsLeast (ValueBreaks value.now) first) }
+fn put_value_faults(
+    alloc: Global,
+    faults: &mut Vec<Spot>,
+    value: &EnumValue,
+) -> Result<(), AllocError>
+    ensures { OnOk result (Gains (ValueBreaks value.now) faults.old.items faults.new.items) }
 {
-    bracketed_settings_fault(alloc, Element::EnumValue, &value.options)
+    put_bracketed_setting_faults(alloc, faults, Element::EnumValue, &value.options)
 }
 
 impl Check for EnumItem<'_> {
     ghost breaks = { λ item. Each (enum_value item) ValueBreaks };
 
-    fn first_fault(&self, alloc: Global) -> Result<Option<Spot>, AllocError> {
+    fn put_faults(&self, alloc: Global, faults: &mut Vec<Spot>) -> Result<(), AllocError> {
         match self {
-            EnumItem::Value(value) => value_fault(alloc, value.get()),
-            EnumItem::Option(_) | EnumItem::Reserved(_) | EnumItem::Empty(_) => Ok(None),
+            EnumItem::Value(value) => put_value_faults(alloc, faults, value.get()),
+            EnumItem::Option(_) | EnumItem::Reserved(_) | EnumItem::Empty(_) => Ok(()),
         }
     }
 }
 
-/// The first fault of an enum.
-pub(crate) fn enum_fault(alloc: Global, declared: &Enum) -> Result<Option<Spot>, AllocError>
-    ensures { IfOk result (λ first. IsLeast (EnumBreaks declared.now) first) }
+/// Puts the faults of an enum.
+pub(crate) fn put_enum_faults(
+    alloc: Global,
+    faults: &mut Vec<Spot>,
+    declared: &Enum,
+) -> Result<(), AllocError>
+    ensures { OnOk result (Gains (EnumBreaks declared.now) faults.old.items faults.new.items) }
 {
     let items = declared.items.as_slice();
-    let empty = empty_fault(declared);
-    let numbers = first_enum_number_fault(alloc, items)?;
-    let own = statement_settings_fault(alloc, Element::Enum, items)?;
-    let values = first_of(alloc, items)?;
-    Ok(least_of(&[empty, numbers, own, values]))
+    put_empty(faults, declared)?;
+    put_enum_number_faults(alloc, faults, items)?;
+    put_statement_setting_faults(alloc, faults, Element::Enum, items)?;
+    put_each(alloc, faults, items)
 }

@@ -1,17 +1,16 @@
 //! Rules on the options of fields (`FieldOptions`).
 
-ghost use Rattle.std.specs.Prelude.{◌≡◌, ◌↔◌, IsTrue, IfOk};
+ghost use Rattle.std.specs.Prelude.{◌≡◌, ◌↔◌, IsTrue, OnOk};
 ghost use Rattle.proto_tree.specs.Lists.{separated};
-ghost use Rattle.proto_base.specs.Least.{IsLeast};
 ghost use Rattle.proto_checks.specs.Options.{is_packed_type, is_wide, is_repeated, IsWronglyPacked, IsOtherType, IsWronglyTyped, FieldOptionsBreak, optioned};
 ghost use Rattle.proto_checks.specs.Parts.{IsWrongOnField};
-ghost use Rattle.proto_base.specs.Sets.{Each};
+ghost use Rattle.proto_base.specs.Sets.{Each, Gains};
 
-use crate::least::least_of;
+use crate::faults::put_fault;
 use crate::options::{choice_of_value, is_true, name_place};
-use crate::settings::bracketed_settings_fault;
+use crate::settings::put_bracketed_setting_faults;
 use proto_base::scalar_type::ScalarType;
-use proto_base::{Kind, Spot, lesser};
+use proto_base::{Kind, Spot};
 use proto_desc::rules::{Element, JSTYPE, PACKED, ValueKind};
 use proto_options::is_setting;
 use proto_tree::{Declarator, FieldType, Label, Options, Setting};
@@ -50,16 +49,18 @@ pub(crate) fn is_repeated(label: &Option<Label>) -> bool
     matches!(label, Some(Label::Repeated(_)))
 }
 
-fn packed_fault(can_be_packed: bool, setting: &Setting) -> Option<Spot>
-    ensures { IsLeast (IsWronglyPacked can_be_packed setting.now) result }
+fn put_wrongly_packed(
+    faults: &mut Vec<Spot>,
+    can_be_packed: bool,
+    setting: &Setting,
+) -> Result<(), AllocError>
+    ensures { OnOk result (Gains (IsWronglyPacked can_be_packed setting.now)
+        faults.old.items faults.new.items) }
 {
     if !can_be_packed && is_setting(setting, PACKED) && is_true(&setting.value) {
-        Some(Spot {
-            place: name_place(setting),
-            kind: Kind::PackedOnWrongKind,
-        })
+        put_fault(faults, name_place(setting), Kind::PackedOnWrongKind)
     } else {
-        None
+        Ok(())
     }
 }
 
@@ -73,57 +74,66 @@ fn is_other_type(setting: &Setting) -> bool
     }
 }
 
-fn jstype_fault(is_wide_integer: bool, setting: &Setting) -> Option<Spot>
-    ensures { IsLeast (IsWronglyTyped is_wide_integer setting.now) result }
+fn put_wrongly_typed(
+    faults: &mut Vec<Spot>,
+    is_wide_integer: bool,
+    setting: &Setting,
+) -> Result<(), AllocError>
+    ensures { OnOk result (Gains (IsWronglyTyped is_wide_integer setting.now)
+        faults.old.items faults.new.items) }
 {
     if !is_wide_integer && is_setting(setting, JSTYPE) && is_other_type(setting) {
-        Some(Spot {
-            place: name_place(setting),
-            kind: Kind::JstypeOnWrongKind,
-        })
+        put_fault(faults, name_place(setting), Kind::JstypeOnWrongKind)
     } else {
-        None
+        Ok(())
     }
 }
 
-fn field_setting_fault(
+/// Puts what is wrong with a setting on a field alone.
+fn put_wrong_on_field(
+    faults: &mut Vec<Spot>,
     can_be_packed: bool,
     is_wide_integer: bool,
     setting: &Setting,
-) -> Option<Spot>
-    ensures { IsLeast (IsWrongOnField can_be_packed is_wide_integer setting.now) result }
+) -> Result<(), AllocError>
+    ensures { OnOk result (Gains (IsWrongOnField can_be_packed is_wide_integer setting.now)
+        faults.old.items faults.new.items) }
 {
-    let packed = packed_fault(can_be_packed, setting);
-    let jstype = jstype_fault(is_wide_integer, setting);
-    least_of(&[packed, jstype])
+    put_wrongly_packed(faults, can_be_packed, setting)?;
+    put_wrongly_typed(faults, is_wide_integer, setting)
 }
 
-fn bracketed_fault(can_be_packed: bool, is_wide_integer: bool, options: &Options) -> Option<Spot>
-    ensures { IsLeast (Each (separated options.now.settings)
-        (IsWrongOnField can_be_packed is_wide_integer)) result }
+/// Puts what is wrong with settings on a field alone.
+fn put_all_wrong_on_field(
+    faults: &mut Vec<Spot>,
+    can_be_packed: bool,
+    is_wide_integer: bool,
+    options: &Options,
+) -> Result<(), AllocError>
+    ensures { OnOk result (Gains (Each (separated options.now.settings)
+        (IsWrongOnField can_be_packed is_wide_integer)) faults.old.items faults.new.items) }
 {
-    let mut first = None;
     for setting in options.settings.iter() {
-        let here = field_setting_fault(can_be_packed, is_wide_integer, setting);
-        first = lesser(first, here);
+        put_wrong_on_field(faults, can_be_packed, is_wide_integer, setting)?;
     }
-    first
+    Ok(())
 }
 
-/// The first fault of the options of a field, of a map field or of a member of a oneof.
-pub(crate) fn field_options_fault(
+/// Puts the faults of the options of a field, of a map field or of a member of a oneof.
+pub(crate) fn put_field_option_faults(
     alloc: Global,
+    faults: &mut Vec<Spot>,
     declarator: &Declarator,
     can_be_packed: bool,
     is_wide_integer: bool,
-) -> Result<Option<Spot>, AllocError>
-    ensures { IfOk result (λ first. IsLeast
-        (FieldOptionsBreak (optioned declarator.now can_be_packed is_wide_integer)) first) }
+) -> Result<(), AllocError>
+    ensures { OnOk result (Gains
+        (FieldOptionsBreak (optioned declarator.now can_be_packed is_wide_integer))
+        faults.old.items faults.new.items) }
 {
     let Some(options) = &declarator.options else {
-        return Ok(None);
+        return Ok(());
     };
-    let on_field = bracketed_fault(can_be_packed, is_wide_integer, options.get());
-    let own = bracketed_settings_fault(alloc, Element::Field, &declarator.options)?;
-    Ok(least_of(&[on_field, own]))
+    put_all_wrong_on_field(faults, can_be_packed, is_wide_integer, options.get())?;
+    put_bracketed_setting_faults(alloc, faults, Element::Field, &declarator.options)
 }

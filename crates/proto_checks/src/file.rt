@@ -1,42 +1,48 @@
 //! All rules of a file (proto3 language specification, "Proto File").
 
-ghost use Rattle.std.specs.Prelude.{◌≡◌, IfOk};
+ghost use Rattle.std.specs.Prelude.{◌≡◌, ◌↔◌, AllPairs, Contains, IfOk, OnOk};
 ghost use Rattle.std.specs.Option.{option_map};
 ghost use Rattle.proto_desc.specs.DeclaredNames.{file_scope, declared_by};
 ghost use Rattle.proto_checks.specs.Checks.{NotProto3Syntax, import_mark, IsTooLong, HeadBreaks, NamesBreak, LengthsBreak, FileBreaks};
 ghost use Rattle.proto_checks.specs.Parts.{StatementBreaks};
-ghost use Rattle.proto_base.specs.Least.{IsLeast, spot};
+ghost use Rattle.proto_base.specs.Least.{IsLeast, Precedes, spot};
 ghost use Rattle.proto_checks.specs.Lengths.{capped};
-ghost use Rattle.proto_base.specs.Sets.{Each};
+ghost use Rattle.proto_base.specs.Sets.{Each, Gains};
+ghost use Rattle.proto_base.specs.declared.spot.Spot.{Spot};
 
-use crate::body::message_fault;
-use crate::each::{Check, first_of};
-use crate::enumeration::enum_fault;
-use crate::least::least_of;
-use crate::lengths::first_length_fault;
+use crate::body::put_message_faults;
+use crate::each::{Check, put_each};
+use crate::enumeration::put_enum_faults;
+use crate::faults::put_fault;
+use crate::lengths::put_long_names;
 use crate::marks::{HasText, MarkedText};
-use crate::package::{package_lengths_fault, package_twice};
-use crate::repeats::first_text_twice;
-use crate::service::service_fault;
-use crate::settings::statement_settings_fault;
-use proto_base::{Kind, Limits, Place, Spot, lesser};
+use crate::package::{put_long_packages, put_packages_twice};
+use crate::repeats::put_texts_twice;
+use crate::service::put_service_faults;
+use crate::settings::put_statement_setting_faults;
+use proto_base::{Kind, Limits, Place, Spot, lesser, sort_spots};
 use proto_desc::file::{FileDesc, ImportDescriptor};
 use proto_desc::rules::Element;
 use proto_tree::text::joined;
 use proto_tree::{FileTree, Statement, Syntax};
 use std::alloc::{AllocError, Global};
 
-fn syntax_fault(alloc: Global, syntax: &Syntax) -> Result<Option<Spot>, AllocError>
-    ensures { IfOk result (λ first. IsLeast (NotProto3Syntax syntax.now) first) }
+fn put_syntax_fault(
+    alloc: Global,
+    faults: &mut Vec<Spot>,
+    syntax: &Syntax,
+) -> Result<(), AllocError>
+    ensures { OnOk result (Gains (NotProto3Syntax syntax.now) faults.old.items faults.new.items) }
 {
     let version = joined(alloc, &syntax.version)?;
     if version.as_str() == "proto3" {
-        return Ok(None);
+        return Ok(());
     }
-    Ok(Some(Spot {
-        place: syntax.version.first.span.start,
-        kind: Kind::NotProto3Syntax,
-    }))
+    put_fault(
+        faults,
+        syntax.version.first.span.start,
+        Kind::NotProto3Syntax,
+    )
 }
 
 /// The text of an import is its path.
@@ -51,40 +57,43 @@ impl<'s> HasText for ImportDescriptor<'s> {
     }
 }
 
-/// The first fault of the syntax, the packages, the imports and the options of a file.
-fn head_fault(alloc: Global, tree: &FileTree, desc: &FileDesc) -> Result<Option<Spot>, AllocError>
-    ensures { IfOk result (λ first. IsLeast (HeadBreaks tree.now desc.now) first) }
+/// Puts the faults of the syntax, the packages, the imports and the options of a file.
+fn put_head_faults(
+    alloc: Global,
+    faults: &mut Vec<Spot>,
+    tree: &FileTree,
+    desc: &FileDesc,
+) -> Result<(), AllocError>
+    ensures { OnOk result (Gains (HeadBreaks tree.now desc.now) faults.old.items faults.new.items) }
 {
     let statements = tree.statements.as_slice();
-    let syntax = syntax_fault(alloc, &tree.syntax)?;
-    let package = package_twice(statements);
-    let import = first_text_twice(alloc, Kind::ImportTwice, desc.imports.as_slice())?;
-    let own = statement_settings_fault(alloc, Element::File, statements)?;
-    Ok(least_of(&[syntax, package, import, own]))
+    put_syntax_fault(alloc, faults, &tree.syntax)?;
+    put_packages_twice(faults, statements)?;
+    put_texts_twice(alloc, faults, Kind::ImportTwice, desc.imports.as_slice())?;
+    put_statement_setting_faults(alloc, faults, Element::File, statements)
 }
 
 impl Check for Statement<'_> {
     ghost breaks = { StatementBreaks };
 
-    fn first_fault(&self, alloc: Global) -> Result<Option<Spot>, AllocError> {
+    fn put_faults(&self, alloc: Global, faults: &mut Vec<Spot>) -> Result<(), AllocError> {
         match self {
-            Statement::Message(message) => message_fault(alloc, message.get()),
-            Statement::Enum(declared) => enum_fault(alloc, declared.get()),
-            Statement::Service(service) => service_fault(alloc, service.get()),
+            Statement::Message(message) => put_message_faults(alloc, faults, message.get()),
+            Statement::Enum(declared) => put_enum_faults(alloc, faults, declared.get()),
+            Statement::Service(service) => put_service_faults(alloc, faults, service.get()),
             Statement::Import(_)
             | Statement::Package(_)
             | Statement::Option(_)
-            | Statement::Empty(_) => Ok(None),
+            | Statement::Empty(_) => Ok(()),
         }
     }
 }
 
-fn names_fault(alloc: Global, desc: &FileDesc) -> Result<Option<Spot>, AllocError>
-    ensures { IfOk result (λ first. IsLeast (NamesBreak desc.now) first) }
+fn put_name_faults(alloc: Global, faults: &mut Vec<Spot>, desc: &FileDesc) -> Result<(), AllocError>
+    ensures { OnOk result (Gains (NamesBreak desc.now) faults.old.items faults.new.items) }
 {
-    let messages = first_of(alloc, desc.messages.as_slice())?;
-    let enums = first_of(alloc, desc.enums.as_slice())?;
-    Ok(least_of(&[messages, enums]))
+    put_each(alloc, faults, desc.messages.as_slice())?;
+    put_each(alloc, faults, desc.enums.as_slice())
 }
 
 /// The length of the scope of what stands at the top of a file.
@@ -94,39 +103,93 @@ fn scope_len(desc: &FileDesc) -> usize
     desc.scope().len()
 }
 
-fn declared_lengths_fault(limits: &Limits, desc: &FileDesc) -> Option<Spot>
-    ensures { IsLeast (Each (declared_by desc.now) (IsTooLong limits.now)) result }
+fn put_declared_length_faults(
+    faults: &mut Vec<Spot>,
+    limits: &Limits,
+    desc: &FileDesc,
+) -> Result<(), AllocError>
+    ensures { OnOk result (Gains (Each (declared_by desc.now) (IsTooLong limits.now))
+        faults.old.items faults.new.items) }
 {
     let len = scope_len(desc);
-    let messages = first_length_fault(limits, len, desc.messages.as_slice());
-    let enums = first_length_fault(limits, len, desc.enums.as_slice());
-    let services = first_length_fault(limits, len, desc.services.as_slice());
-    let types = lesser(messages, enums);
-    lesser(types, services)
+    put_long_names(faults, limits, len, desc.messages.as_slice())?;
+    put_long_names(faults, limits, len, desc.enums.as_slice())?;
+    put_long_names(faults, limits, len, desc.services.as_slice())
 }
 
-fn lengths_fault(limits: &Limits, statements: &[Statement], desc: &FileDesc) -> Option<Spot>
-    ensures { IsLeast (LengthsBreak limits.now statements.now desc.now) result }
+fn put_length_faults(
+    faults: &mut Vec<Spot>,
+    limits: &Limits,
+    statements: &[Statement],
+    desc: &FileDesc,
+) -> Result<(), AllocError>
+    ensures { OnOk result (Gains (LengthsBreak limits.now statements.now desc.now)
+        faults.old.items faults.new.items) }
 {
-    let packages = package_lengths_fault(limits, statements);
-    let declared = declared_lengths_fault(limits, desc);
-    least_of(&[packages, declared])
+    put_long_packages(faults, limits, statements)?;
+    put_declared_length_faults(faults, limits, desc)
 }
 
-fn file_fault(
+fn put_file_faults(
+    alloc: Global,
+    faults: &mut Vec<Spot>,
+    tree: &FileTree,
+    desc: &FileDesc,
+    limits: &Limits,
+) -> Result<(), AllocError>
+    ensures { OnOk result (Gains (FileBreaks limits.now tree.now desc.now)
+        faults.old.items faults.new.items) }
+{
+    let statements = tree.statements.as_slice();
+    put_head_faults(alloc, faults, tree, desc)?;
+    put_each(alloc, faults, statements)?;
+    put_name_faults(alloc, faults, desc)?;
+    put_length_faults(faults, limits, statements, desc)
+}
+
+/// The rules that a file breaks, in whatever order, some more than once.
+fn found_faults(
     alloc: Global,
     tree: &FileTree,
     desc: &FileDesc,
     limits: &Limits,
-) -> Result<Option<Spot>, AllocError>
-    ensures { IfOk result (λ first. IsLeast (FileBreaks limits.now tree.now desc.now) first) }
+) -> Result<Vec<Spot>, AllocError>
+    ensures { IfOk result (λ faults. (x : Spot)
+        → Contains faults.items x ↔ FileBreaks limits.now tree.now desc.now x) }
 {
-    let statements = tree.statements.as_slice();
-    let head = head_fault(alloc, tree, desc)?;
-    let elements = first_of(alloc, statements)?;
-    let names = names_fault(alloc, desc)?;
-    let lengths = lengths_fault(limits, statements, desc);
-    Ok(least_of(&[head, elements, names, lengths]))
+    let mut faults = Vec::new(alloc);
+    put_file_faults(alloc, &mut faults, tree, desc, limits)?;
+    Ok(faults)
+}
+
+/// All rules that a file breaks, each with the place where it does, by place and then by the kind's number, each once. The
+/// descriptor is that of the tree, as `lower` gives it.
+///
+/// The rules are those that docs/LANGUAGE.md lists. Only memory can be refused.
+pub fn check_faults(
+    alloc: Global,
+    tree: &FileTree,
+    desc: &FileDesc,
+    limits: &Limits,
+) -> Result<Vec<Spot>, AllocError>
+    ensures all { IfOk result (λ faults. (x : Spot)
+        → Contains faults.items x ↔ FileBreaks limits.now tree.now desc.now x) }
+    ensures order { IfOk result (λ faults. AllPairs Precedes faults.items) }
+{
+    let mut faults = found_faults(alloc, tree, desc, limits)?;
+    sort_spots(&mut faults);
+    Ok(faults)
+}
+
+/// The first of some faults.
+fn first_of(faults: &[Spot]) -> Option<Spot>
+    ensures { IsLeast (Contains faults.now) result }
+{
+    let mut first = None;
+    for fault in faults {
+        first = lesser(first, Some(*fault));
+    }
+    first
 }
 
 /// The first rule that a file breaks, and the place where it does; of those at one place, the one of the least kind.
@@ -142,7 +205,8 @@ pub fn first_check_fault(
     ensures { IfOk result (λ first. IsLeast (FileBreaks limits.now tree.now desc.now)
         (option_map (λ fault. spot fault.0 fault.1) first)) }
 {
-    match file_fault(alloc, tree, desc, limits)? {
+    let faults = found_faults(alloc, tree, desc, limits)?;
+    match first_of(&faults) {
         Some(spot) => Ok(Some((spot.place, spot.kind))),
         None => Ok(None),
     }

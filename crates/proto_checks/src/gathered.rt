@@ -10,7 +10,7 @@ use proto_tree::{EnumItem, MessageItem, NumberLiteral, OneofItem, Range, SignedN
 use std::alloc::{AllocError, Global};
 
 /// The greatest number of a field, which `max` stands for in a message.
-pub(crate) const FIELD_MAX: u128 = proto_options::FIELD_MAX as u128;
+pub const FIELD_MAX: u128 = proto_options::FIELD_MAX as u128;
 
 /// The number of an enum's value that is 0, as `MarkedNumber` counts it.
 pub(crate) const VALUE_ZERO: u128 = 1 << 64;
@@ -19,10 +19,10 @@ pub(crate) const VALUE_ZERO: u128 = 1 << 64;
 pub(crate) const VALUE_MIN: u128 = VALUE_ZERO - 2_147_483_648;
 
 /// The greatest number of an enum's value, which `max` stands for in an enum.
-pub(crate) const VALUE_MAX: u128 = VALUE_ZERO + proto_options::VALUE_MAX as u128;
+pub const VALUE_MAX: u128 = VALUE_ZERO + proto_options::VALUE_MAX as u128;
 
 /// A number of a field or of an enum's value, as it is spelled.
-pub(crate) trait Literal: Copy {
+pub trait Literal: Copy {
     ghost use Rattle.std.specs.Prelude.{◌≡◌};
     ghost use Rattle.proto_checks.specs.declared.marks.MarkedNumber.{MarkedNumber};
 
@@ -77,10 +77,7 @@ fn put_members(numbers: &mut Vec<MarkedNumber>, items: &[OneofItem]) -> Result<(
 }
 
 /// The numbers of a message's fields, map fields and members of oneofs among them.
-pub(crate) fn field_numbers(
-    alloc: Global,
-    items: &[MessageItem],
-) -> Result<Vec<MarkedNumber>, AllocError>
+pub fn field_numbers(alloc: Global, items: &[MessageItem]) -> Result<Vec<MarkedNumber>, AllocError>
     ensures { IfOk result (λ numbers. numbers.items ≡ field_numbers items.now) }
 {
     let mut numbers = Vec::with_capacity(alloc, items.len())?;
@@ -112,7 +109,7 @@ fn marked_range<N: Literal>(range: &Range<N>, greatest: u128) -> MarkedRange
 }
 
 /// The numbers of ranges, in which `max` stands for the greatest number.
-pub(crate) fn marked_ranges<N: Literal>(
+pub fn marked_ranges<N: Literal>(
     alloc: Global,
     listed: &[Range<N>],
     greatest: u128,
@@ -155,10 +152,7 @@ pub(crate) fn marked_bounds<N: Literal>(
 }
 
 /// The numbers of an enum's values.
-pub(crate) fn value_numbers(
-    alloc: Global,
-    items: &[EnumItem],
-) -> Result<Vec<MarkedNumber>, AllocError>
+pub fn value_numbers(alloc: Global, items: &[EnumItem]) -> Result<Vec<MarkedNumber>, AllocError>
     ensures { IfOk result (λ numbers. numbers.items ≡ value_numbers items.now) }
 {
     let mut numbers = Vec::with_capacity(alloc, items.len())?;

@@ -1,19 +1,20 @@
 //! That no name and no full name is longer than the limits allow. Full names are measured and never built.
 
-ghost use Rattle.std.specs.Prelude.{◌≡◌, ℕ, List, map, flat_map};
+ghost use Rattle.std.specs.Prelude.{◌≡◌, ℕ, List, OnOk, map, flat_map};
 ghost use Rattle.proto_desc.specs.DeclaredNames.{scoped, declared_by_enum, declared_by_message, declared_by_service};
 ghost use Rattle.proto_checks.specs.Checks.{IsTooLong};
-ghost use Rattle.proto_base.specs.Least.{IsLeast};
 ghost use Rattle.proto_checks.specs.Lengths.{capped, IsLongName, declared_inside_of};
-ghost use Rattle.proto_base.specs.Sets.{Each};
+ghost use Rattle.proto_base.specs.Sets.{Each, Gains};
 
-use proto_base::{Kind, Limit, Limits, Place, Spot, lesser};
+use crate::faults::put_fault;
+use proto_base::{Kind, Limit, Limits, Place, Spot};
 use proto_desc::Declares;
 use proto_desc::enumeration::EnumDesc;
 use proto_desc::field::FieldDesc;
 use proto_desc::message::MessageDesc;
 use proto_desc::oneof::OneofDesc;
 use proto_desc::service::ServiceDesc;
+use std::alloc::AllocError;
 
 /// The length of a name behind its scope, up to the greatest that there is.
 fn full_len(scope_len: usize, name: &str) -> usize
@@ -27,78 +28,97 @@ fn full_len(scope_len: usize, name: &str) -> usize
     }
 }
 
-fn name_fault(limits: &Limits, scope_len: usize, name: &str, place: Place) -> Option<Spot>
+/// Puts a name that is too long, by itself or behind its scope.
+fn put_long_name(
+    faults: &mut Vec<Spot>,
+    limits: &Limits,
+    scope_len: usize,
+    name: &str,
+    place: Place,
+) -> Result<(), AllocError>
     ensures { (scope : List ℕ) → scope_len ≡ capped scope
-        → IsLeast (IsLongName limits.now scope name.now place) result }
+        → OnOk result (Gains (IsLongName limits.now scope name.now place)
+        faults.old.items faults.new.items) }
 {
     let full = full_len(scope_len, name);
     let is_long = name.len() as u64 > limits.get(Limit::NameBytes);
     if is_long || full as u64 > limits.get(Limit::FullNameBytes) {
-        Some(Spot {
-            place,
-            kind: Kind::NameTooLong,
-        })
+        put_fault(faults, place, Kind::NameTooLong)
     } else {
-        None
+        Ok(())
     }
 }
 
-/// The first name that is too long of elements that declare their own names alone.
-fn members_fault<D: Declares>(limits: &Limits, scope_len: usize, members: &[D]) -> Option<Spot>
+/// Puts the names that are too long of elements that declare their own names alone.
+fn put_long_members<D: Declares>(
+    faults: &mut Vec<Spot>,
+    limits: &Limits,
+    scope_len: usize,
+    members: &[D],
+) -> Result<(), AllocError>
     ensures { (scope : List ℕ) → scope_len ≡ capped scope
-        → IsLeast (Each (map (D.declared scope) members.now) (IsTooLong limits.now)) result }
+        → OnOk result (Gains (Each (map (D.declared scope) members.now) (IsTooLong limits.now))
+        faults.old.items faults.new.items) }
 {
-    let mut first = None;
     for member in members {
         let declared = member.declared_name();
-        let here = name_fault(limits, scope_len, declared.name, declared.place);
-        first = lesser(first, here);
+        put_long_name(faults, limits, scope_len, declared.name, declared.place)?;
     }
-    first
+    Ok(())
 }
 
 /// What declares names, its own among them.
 pub(crate) trait DeclaresAll {
-    ghost use Rattle.std.specs.Prelude.{◌≡◌, ℕ, List};
+    ghost use Rattle.std.specs.Prelude.{◌≡◌, ℕ, List, OnOk};
     ghost use Rattle.proto_desc.specs.DeclaredNames.{Declared};
-    ghost use Rattle.proto_base.specs.Least.{IsLeast};
-    ghost use Rattle.proto_base.specs.Sets.{Each};
+    ghost use Rattle.proto_base.specs.Sets.{Each, Gains};
     ghost use Rattle.proto_checks.specs.Checks.{IsTooLong};
     ghost use Rattle.proto_checks.specs.Lengths.{capped};
 
     /// These names, in a scope.
     ghost declares: { List ℕ → Self → List Declared };
 
-    /// The first of them that is too long.
-    fn length_fault(&self, limits: &Limits, scope_len: usize) -> Option<Spot>
+    /// Puts those of them that are too long.
+    fn put_long(
+        &self,
+        faults: &mut Vec<Spot>,
+        limits: &Limits,
+        scope_len: usize,
+    ) -> Result<(), AllocError>
         ensures { (scope : List ℕ) → scope_len ≡ capped scope
-            → IsLeast (Each (declares scope self.now) (IsTooLong limits.now)) result };
+            → OnOk result (Gains (Each (declares scope self.now) (IsTooLong limits.now))
+            faults.old.items faults.new.items) };
 }
 
-/// The first name that is too long of elements and of what stands in them.
-pub(crate) fn first_length_fault<D: DeclaresAll>(
+/// Puts the names that are too long of elements and of what stands in them.
+pub(crate) fn put_long_names<D: DeclaresAll>(
+    faults: &mut Vec<Spot>,
     limits: &Limits,
     scope_len: usize,
     elements: &[D],
-) -> Option<Spot>
+) -> Result<(), AllocError>
     ensures { (scope : List ℕ) → scope_len ≡ capped scope
-        → IsLeast (Each (flat_map (D.declares scope) elements.now) (IsTooLong limits.now)) result }
+        → OnOk result (Gains (Each (flat_map (D.declares scope) elements.now) (IsTooLong limits.now))
+        faults.old.items faults.new.items) }
 {
-    let mut first = None;
     for element in elements {
-        first = lesser(first, element.length_fault(limits, scope_len));
+        element.put_long(faults, limits, scope_len)?;
     }
-    first
+    Ok(())
 }
 
 /// An enum and its values.
 impl DeclaresAll for EnumDesc<'_> {
     ghost declares = { declared_by_enum };
 
-    fn length_fault(&self, limits: &Limits, scope_len: usize) -> Option<Spot> {
-        let own = name_fault(limits, scope_len, self.name.as_str(), self.place);
-        let values = members_fault(limits, scope_len, self.values.as_slice());
-        lesser(own, values)
+    fn put_long(
+        &self,
+        faults: &mut Vec<Spot>,
+        limits: &Limits,
+        scope_len: usize,
+    ) -> Result<(), AllocError> {
+        put_long_name(faults, limits, scope_len, self.name.as_str(), self.place)?;
+        put_long_members(faults, limits, scope_len, self.values.as_slice())
     }
 }
 
@@ -106,56 +126,76 @@ impl DeclaresAll for EnumDesc<'_> {
 impl DeclaresAll for ServiceDesc<'_> {
     ghost declares = { declared_by_service };
 
-    fn length_fault(&self, limits: &Limits, scope_len: usize) -> Option<Spot> {
+    fn put_long(
+        &self,
+        faults: &mut Vec<Spot>,
+        limits: &Limits,
+        scope_len: usize,
+    ) -> Result<(), AllocError> {
         let name = self.name.as_str();
-        let own = name_fault(limits, scope_len, name, self.place);
+        put_long_name(faults, limits, scope_len, name, self.place)?;
         let len = full_len(scope_len, name);
-        let methods = members_fault(limits, len, self.methods.as_slice());
-        lesser(own, methods)
+        put_long_members(faults, limits, len, self.methods.as_slice())
     }
 }
 
-/// The first name that is too long of what stands in a message, but for the messages within it.
-fn inside_fault(
+/// Puts the names that are too long of what stands in a message, but for the messages within it.
+fn put_long_inside(
+    faults: &mut Vec<Spot>,
     limits: &Limits,
     scope_len: usize,
     fields: &[FieldDesc],
     oneofs: &[OneofDesc],
     enums: &[EnumDesc],
-) -> Option<Spot>
+) -> Result<(), AllocError>
     ensures { (scope : List ℕ) → scope_len ≡ capped scope
-        → IsLeast (Each (declared_inside_of scope fields.now oneofs.now enums.now)
-        (IsTooLong limits.now)) result }
+        → OnOk result (Gains (Each (declared_inside_of scope fields.now oneofs.now enums.now)
+        (IsTooLong limits.now)) faults.old.items faults.new.items) }
 {
-    let field = members_fault(limits, scope_len, fields);
-    let oneof = members_fault(limits, scope_len, oneofs);
-    let declared = first_length_fault(limits, scope_len, enums);
-    let member = lesser(field, oneof);
-    lesser(member, declared)
+    put_long_members(faults, limits, scope_len, fields)?;
+    put_long_members(faults, limits, scope_len, oneofs)?;
+    put_long_names(faults, limits, scope_len, enums)
 }
 
-/// The first name that is too long of a message and of all within it.
-fn message_fault(limits: &Limits, scope_len: usize, message: &MessageDesc) -> Option<Spot>
+/// Puts the names that are too long of a message and of all within it.
+fn put_long_in_message(
+    faults: &mut Vec<Spot>,
+    limits: &Limits,
+    scope_len: usize,
+    message: &MessageDesc,
+) -> Result<(), AllocError>
     ensures { (scope : List ℕ) → scope_len ≡ capped scope
-        → IsLeast (Each (declared_by_message message.now scope) (IsTooLong limits.now)) result }
+        → OnOk result (Gains (Each (declared_by_message message.now scope) (IsTooLong limits.now))
+        faults.old.items faults.new.items) }
 {
     let name = message.name.as_str();
     let len = full_len(scope_len, name);
-    let own = name_fault(limits, scope_len, name, message.place);
+    put_long_name(faults, limits, scope_len, name, message.place)?;
     let fields = message.fields.as_slice();
     let oneofs = message.oneofs.as_slice();
-    let inside = inside_fault(limits, len, fields, oneofs, message.enums.as_slice());
-    let mut first = lesser(own, inside);
+    put_long_inside(
+        faults,
+        limits,
+        len,
+        fields,
+        oneofs,
+        message.enums.as_slice(),
+    )?;
     for nested in message.nested.as_slice() {
-        first = lesser(first, message_fault(limits, len, nested));
+        put_long_in_message(faults, limits, len, nested)?;
     }
-    first
+    Ok(())
 }
 
 impl DeclaresAll for MessageDesc<'_> {
     ghost declares = { λ scope message. declared_by_message message scope };
 
-    fn length_fault(&self, limits: &Limits, scope_len: usize) -> Option<Spot> {
-        message_fault(limits, scope_len, self)
+    fn put_long(
+        &self,
+        faults: &mut Vec<Spot>,
+        limits: &Limits,
+        scope_len: usize,
+    ) -> Result<(), AllocError> {
+        put_long_in_message(faults, limits, scope_len, self)
     }
 }

@@ -1,151 +1,154 @@
-//! The first rule that the numbers of a message's fields or of an enum's values break, or what is reserved there (language
+//! The rules that the numbers of a message's fields or of an enum's values break, or what is reserved there (language
 //! guide, "Assigning Field Numbers", "Reserved Fields", "Enumerations", "Reserved Values").
 
-ghost use Rattle.std.specs.Prelude.{IfOk, flat_map};
+ghost use Rattle.std.specs.Prelude.{OnOk, flat_map};
 ghost use Rattle.proto_options.specs.Options.{enum_setting, first_setting};
 ghost use Rattle.proto_desc.specs.Rules.{allow_alias};
 ghost use Rattle.proto_options.specs.Statements.{ranges_in};
-ghost use Rattle.proto_base.specs.Least.{IsLeast};
+ghost use Rattle.proto_base.specs.Sets.{Gains};
 ghost use Rattle.proto_checks.specs.Numbers.{FirstNotZero, FieldNumbersBreak, EnumNumbersBreak, RangesBreak, ValueTwice, OwnFieldNumbersBreak, OwnValueNumbersBreak, ReservedRangesBreak};
 
 use crate::aliases::is_aliasing;
-use crate::bounds::{first_no_field_number, first_outside};
+use crate::bounds::{put_no_field_numbers, put_outside};
+use crate::faults::put_fault;
 use crate::gathered::{
     FIELD_MAX, Literal, VALUE_MAX, VALUE_MIN, VALUE_ZERO, field_numbers, marked_bounds,
     marked_ranges, value_numbers,
 };
-use crate::least::least_of;
 use crate::marks::{MarkedNumber, MarkedRange};
-use crate::ranges::{first_backwards, first_overlap, first_reserved_number};
-use crate::repeats::first_number_twice;
-use crate::reserved_names::first_reserved_twice;
+use crate::ranges::{put_backwards, put_overlaps, put_reserved_numbers_used};
+use crate::repeats::{is_rising, put_numbers_twice, put_unordered_twice};
+use crate::reserved_names::put_reserved_twice;
 use proto_base::{Kind, Spot};
 use proto_options::{Reserves, ranges_listed};
 use proto_tree::{EnumItem, MessageItem};
 use std::alloc::{AllocError, Global};
 
-fn first_range_fault(
+fn put_range_faults(
     alloc: Global,
+    faults: &mut Vec<Spot>,
     ranges: &[MarkedRange],
     numbers: &[MarkedNumber],
-) -> Result<Option<Spot>, AllocError>
-    ensures { IfOk result (λ first. IsLeast (RangesBreak ranges.now numbers.now) first) }
+) -> Result<(), AllocError>
+    ensures { OnOk result (Gains (RangesBreak ranges.now numbers.now)
+        faults.old.items faults.new.items) }
 {
-    let used = first_reserved_number(alloc, ranges, numbers)?;
-    let overlap = first_overlap(alloc, ranges)?;
-    let backwards = first_backwards(ranges);
-    Ok(least_of(&[used, overlap, backwards]))
+    put_reserved_numbers_used(alloc, faults, ranges, numbers)?;
+    put_overlaps(alloc, faults, ranges)?;
+    put_backwards(faults, ranges)
 }
 
-/// The first rule that the numbers of a message's fields break among themselves.
-fn first_own_field_number_fault(
+/// Puts the rules that the numbers of a message's fields break among themselves.
+fn put_own_field_number_faults(
     alloc: Global,
+    faults: &mut Vec<Spot>,
     numbers: &[MarkedNumber],
-) -> Result<Option<Spot>, AllocError>
-    ensures { IfOk result (λ first. IsLeast (OwnFieldNumbersBreak numbers.now) first) }
+) -> Result<(), AllocError>
+    ensures { OnOk result (Gains (OwnFieldNumbersBreak numbers.now)
+        faults.old.items faults.new.items) }
 {
-    let number = first_no_field_number(numbers);
-    let twice = first_number_twice(alloc, Kind::FieldNumberTwice, numbers)?;
-    Ok(least_of(&[number, twice]))
+    put_no_field_numbers(faults, numbers)?;
+    put_numbers_twice(alloc, faults, Kind::FieldNumberTwice, numbers)
 }
 
-/// The first rule that the ranges which statements reserve break, and the numbers in use with them. The bounds of ranges
+/// Puts the rules that the ranges which statements reserve break, and the numbers in use with them. The bounds of ranges
 /// lie from the least to the greatest number, or are faults of this kind.
-fn first_reserved_range_fault<'s, I: Reserves<'s>>(
+fn put_reserved_range_faults<'s, I: Reserves<'s>>(
     alloc: Global,
+    faults: &mut Vec<Spot>,
     items: &[I],
     numbers: &[MarkedNumber],
     least: u128,
     greatest: u128,
     kind: Kind,
-) -> Result<Option<Spot>, AllocError>
+) -> Result<(), AllocError>
 where
     I::Number: Literal,
-    ensures { IfOk result (λ first. IsLeast
+    ensures { OnOk result (Gains
         (ReservedRangesBreak I.Number.mark least greatest kind
-        (flat_map ranges_in (flat_map I.reserved_by items.now)) numbers.now) first) }
+        (flat_map ranges_in (flat_map I.reserved_by items.now)) numbers.now)
+        faults.old.items faults.new.items) }
 {
     let listed = ranges_listed(alloc, items)?;
     if listed.is_empty() {
-        return Ok(None);
+        return Ok(());
     }
     let bounds = marked_bounds(alloc, &listed)?;
-    let bound = first_outside(least, greatest, kind, &bounds);
+    put_outside(faults, least, greatest, kind, &bounds)?;
     let ranges = marked_ranges(alloc, &listed, greatest)?;
-    let range = first_range_fault(alloc, &ranges, numbers)?;
-    Ok(least_of(&[bound, range]))
+    put_range_faults(alloc, faults, &ranges, numbers)
 }
 
-/// The first rule on numbers that the statements of a message break.
-pub(crate) fn first_field_number_fault(
+/// Puts the rules on numbers that the statements of a message break.
+pub(crate) fn put_field_number_faults(
     alloc: Global,
+    faults: &mut Vec<Spot>,
     items: &[MessageItem],
-) -> Result<Option<Spot>, AllocError>
-    ensures { IfOk result (λ first. IsLeast (FieldNumbersBreak items.now) first) }
+) -> Result<(), AllocError>
+    ensures { OnOk result (Gains (FieldNumbersBreak items.now) faults.old.items faults.new.items) }
 {
     let numbers = field_numbers(alloc, items)?;
-    let own = first_own_field_number_fault(alloc, &numbers)?;
+    put_own_field_number_faults(alloc, faults, &numbers)?;
     let kind = Kind::FieldNumberRange;
-    let range = first_reserved_range_fault(alloc, items, &numbers, 1, FIELD_MAX, kind)?;
-    let name = first_reserved_twice(alloc, items)?;
-    Ok(least_of(&[own, range, name]))
+    put_reserved_range_faults(alloc, faults, items, &numbers, 1, FIELD_MAX, kind)?;
+    put_reserved_twice(alloc, faults, items)
 }
 
-/// The first value, where it is not 0.
-fn first_not_zero(numbers: &[MarkedNumber]) -> Option<Spot>
-    ensures { IsLeast (FirstNotZero numbers.now) result }
+/// Puts the first value, where it is not 0.
+fn put_first_not_zero(faults: &mut Vec<Spot>, numbers: &[MarkedNumber]) -> Result<(), AllocError>
+    ensures { OnOk result (Gains (FirstNotZero numbers.now) faults.old.items faults.new.items) }
 {
     match numbers.first() {
-        Some(marked) if marked.number != VALUE_ZERO => Some(Spot {
-            place: marked.place,
-            kind: Kind::EnumFirstNotZero,
-        }),
-        _ => None,
+        Some(marked) if marked.number != VALUE_ZERO => {
+            put_fault(faults, marked.place, Kind::EnumFirstNotZero)
+        }
+        _ => Ok(()),
     }
 }
 
-/// The first value whose number an earlier one has, unless the enum allows it.
-fn first_value_twice(
+/// Puts the values whose numbers earlier ones have, unless the enum allows it.
+fn put_values_twice(
     alloc: Global,
+    faults: &mut Vec<Spot>,
     items: &[EnumItem],
     numbers: &[MarkedNumber],
-) -> Result<Option<Spot>, AllocError>
-    ensures { IfOk result (λ first. IsLeast
+) -> Result<(), AllocError>
+    ensures { OnOk result (Gains
         (ValueTwice (first_setting allow_alias (flat_map enum_setting items.now)) numbers.now)
-        first) }
+        faults.old.items faults.new.items) }
 {
-    let twice = first_number_twice(alloc, Kind::EnumNumberTwice, numbers)?;
-    if twice.is_some() && is_aliasing(items) {
-        return Ok(None);
+    if is_rising(numbers) || is_aliasing(items) {
+        return Ok(());
     }
-    Ok(twice)
+    put_unordered_twice(alloc, faults, Kind::EnumNumberTwice, numbers)
 }
 
-/// The first rule that the numbers of an enum's values break among themselves.
-fn first_own_value_number_fault(
+/// Puts the rules that the numbers of an enum's values break among themselves.
+fn put_own_value_number_faults(
     alloc: Global,
+    faults: &mut Vec<Spot>,
     items: &[EnumItem],
     numbers: &[MarkedNumber],
-) -> Result<Option<Spot>, AllocError>
-    ensures { IfOk result (λ first. IsLeast (OwnValueNumbersBreak items.now numbers.now) first) }
+) -> Result<(), AllocError>
+    ensures { OnOk result (Gains (OwnValueNumbersBreak items.now numbers.now)
+        faults.old.items faults.new.items) }
 {
-    let zero = first_not_zero(numbers);
-    let number = first_outside(VALUE_MIN, VALUE_MAX, Kind::EnumNumberRange, numbers);
-    let twice = first_value_twice(alloc, items, numbers)?;
-    Ok(least_of(&[zero, number, twice]))
+    put_first_not_zero(faults, numbers)?;
+    put_outside(faults, VALUE_MIN, VALUE_MAX, Kind::EnumNumberRange, numbers)?;
+    put_values_twice(alloc, faults, items, numbers)
 }
 
-/// The first rule on numbers that the statements of an enum break.
-pub(crate) fn first_enum_number_fault(
+/// Puts the rules on numbers that the statements of an enum break.
+pub(crate) fn put_enum_number_faults(
     alloc: Global,
+    faults: &mut Vec<Spot>,
     items: &[EnumItem],
-) -> Result<Option<Spot>, AllocError>
-    ensures { IfOk result (λ first. IsLeast (EnumNumbersBreak items.now) first) }
+) -> Result<(), AllocError>
+    ensures { OnOk result (Gains (EnumNumbersBreak items.now) faults.old.items faults.new.items) }
 {
     let numbers = value_numbers(alloc, items)?;
-    let own = first_own_value_number_fault(alloc, items, &numbers)?;
+    put_own_value_number_faults(alloc, faults, items, &numbers)?;
     let kind = Kind::EnumNumberRange;
-    let range = first_reserved_range_fault(alloc, items, &numbers, VALUE_MIN, VALUE_MAX, kind)?;
-    let name = first_reserved_twice(alloc, items)?;
-    Ok(least_of(&[own, range, name]))
+    put_reserved_range_faults(alloc, faults, items, &numbers, VALUE_MIN, VALUE_MAX, kind)?;
+    put_reserved_twice(alloc, faults, items)
 }

@@ -1,13 +1,13 @@
 //! Rules on oneofs (language guide, "Oneof").
 
-ghost use Rattle.std.specs.Prelude.{◌≡◌, IfOk};
+ghost use Rattle.std.specs.Prelude.{◌≡◌, OnOk};
 ghost use Rattle.std.specs.List.{list_any};
 ghost use Rattle.proto_checks.specs.Elements.{IsEmptyOneof, OneofBreaks};
 ghost use Rattle.proto_checks.specs.Parts.{is_oneof_member};
-ghost use Rattle.proto_base.specs.Least.{IsLeast};
+ghost use Rattle.proto_base.specs.Sets.{Gains};
 
-use crate::least::least_of;
-use crate::settings::statement_settings_fault;
+use crate::faults::put_fault;
+use crate::settings::put_statement_setting_faults;
 use proto_base::{Kind, Spot};
 use proto_desc::rules::Element;
 use proto_tree::{Oneof, OneofItem};
@@ -19,24 +19,24 @@ fn has_member(items: &[OneofItem]) -> bool
     items.iter().any(|item| matches!(item, OneofItem::Field(_)))
 }
 
-fn empty_fault(oneof: &Oneof) -> Option<Spot>
-    ensures { IsLeast (IsEmptyOneof oneof.now) result }
+fn put_empty(faults: &mut Vec<Spot>, oneof: &Oneof) -> Result<(), AllocError>
+    ensures { OnOk result (Gains (IsEmptyOneof oneof.now) faults.old.items faults.new.items) }
 {
     if has_member(oneof.items.as_slice()) {
-        None
+        Ok(())
     } else {
-        Some(Spot {
-            place: oneof.name.span.start,
-            kind: Kind::OneofEmpty,
-        })
+        put_fault(faults, oneof.name.span.start, Kind::OneofEmpty)
     }
 }
 
-/// The first fault of a oneof, without those of its members.
-pub(crate) fn oneof_fault(alloc: Global, oneof: &Oneof) -> Result<Option<Spot>, AllocError>
-    ensures { IfOk result (λ first. IsLeast (OneofBreaks oneof.now) first) }
+/// Puts the faults of a oneof, without those of its members.
+pub(crate) fn put_oneof_faults(
+    alloc: Global,
+    faults: &mut Vec<Spot>,
+    oneof: &Oneof,
+) -> Result<(), AllocError>
+    ensures { OnOk result (Gains (OneofBreaks oneof.now) faults.old.items faults.new.items) }
 {
-    let empty = empty_fault(oneof);
-    let own = statement_settings_fault(alloc, Element::Oneof, oneof.items.as_slice())?;
-    Ok(least_of(&[empty, own]))
+    put_empty(faults, oneof)?;
+    put_statement_setting_faults(alloc, faults, Element::Oneof, oneof.items.as_slice())
 }

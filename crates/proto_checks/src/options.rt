@@ -1,23 +1,23 @@
 //! Rules on the options of an element (`descriptor.proto`, `FileOptions` to `MethodOptions`).
 
-ghost use Rattle.std.specs.Prelude.{◌≡◌, ◌↔◌, Some, IsTrue, IfOk, List, map};
+ghost use Rattle.std.specs.Prelude.{◌≡◌, ◌↔◌, Some, IsTrue, IfOk, OnOk, List, map};
 ghost use Rattle.std.specs.Option.{is_some, option_map, option_copied};
 ghost use Rattle.proto_desc.specs.Rules.{rule_of};
 ghost use Rattle.proto_desc.specs.declared.options.OptionValue.TheVariants.{Number};
 ghost use Rattle.proto_desc.specs.declared.rules.ValueKind.TheVariants.{Bool};
 ghost use Rattle.proto_options.specs.Options.{is_setting, value_of};
-ghost use Rattle.proto_base.specs.Least.{IsLeast};
 ghost use Rattle.proto_checks.specs.Options.{name_place, value_place, SettingsBreak};
 ghost use Rattle.proto_checks.specs.Parts.{choice_of_value};
 ghost use Rattle.proto_checks.specs.Judged.{rule_named, setting_fault, judged, judged_name, IsFaultOf, JudgedTwice};
-ghost use Rattle.proto_base.specs.Sets.{Each};
+ghost use Rattle.proto_base.specs.Sets.{Each, Gains};
 ghost use Rattle.proto_desc.specs.declared.rules.Element.{Element};
 ghost use Rattle.proto_tree.specs.declared.option.Setting.{Setting};
 
+use crate::faults::put_found;
 use crate::marks::{HasText, MarkedText};
-use crate::repeats::first_text_twice;
+use crate::repeats::put_texts_twice;
 use proto_base::text::Text;
-use proto_base::{Kind, Place, Spot, lesser};
+use proto_base::{Kind, Place, Spot};
 use proto_desc::rules::{Element, OptionRule, ValueKind, rules};
 use proto_options::{is_setting, number_of};
 use proto_tree::text::dotted;
@@ -133,30 +133,36 @@ impl<'s> HasText for Judged<'s> {
     }
 }
 
-/// The first fault that a setting has by itself.
-fn own_fault(settings: &[Judged]) -> Option<Spot>
-    ensures { IsLeast (Each settings.now IsFaultOf) result }
+/// Puts the faults that settings have by themselves.
+fn put_own_faults(faults: &mut Vec<Spot>, settings: &[Judged]) -> Result<(), AllocError>
+    ensures { OnOk result (Gains (Each settings.now IsFaultOf) faults.old.items faults.new.items) }
 {
-    let mut first = None;
     for setting in settings {
-        first = lesser(first, setting.fault);
+        put_found(faults, setting.fault)?;
     }
-    first
+    Ok(())
 }
 
-/// The first setting of an option that is set before.
-fn option_twice(alloc: Global, settings: &[Judged]) -> Result<Option<Spot>, AllocError>
-    ensures { IfOk result (λ first. IsLeast (JudgedTwice settings.now) first) }
+/// Puts the settings of options that are set before.
+fn put_options_twice(
+    alloc: Global,
+    faults: &mut Vec<Spot>,
+    settings: &[Judged],
+) -> Result<(), AllocError>
+    ensures { OnOk result (Gains (JudgedTwice settings.now) faults.old.items faults.new.items) }
 {
-    first_text_twice(alloc, Kind::OptionTwice, settings)
+    put_texts_twice(alloc, faults, Kind::OptionTwice, settings)
 }
 
-/// The first fault of an element's settings.
-pub(crate) fn settings_fault(alloc: Global, settings: &[Judged]) -> Result<Option<Spot>, AllocError>
-    ensures { IfOk result (λ first. (element : Element) → (given : List Setting)
-        → settings.now ≡ map (judged element) given → IsLeast (SettingsBreak element given) first) }
+/// Puts the faults of an element's settings.
+pub(crate) fn put_setting_faults(
+    alloc: Global,
+    faults: &mut Vec<Spot>,
+    settings: &[Judged],
+) -> Result<(), AllocError>
+    ensures { (element : Element) (given : List Setting) → settings.now ≡ map (judged element) given
+        → OnOk result (Gains (SettingsBreak element given) faults.old.items faults.new.items) }
 {
-    let own = own_fault(settings);
-    let twice = option_twice(alloc, settings)?;
-    Ok(lesser(own, twice))
+    put_own_faults(faults, settings)?;
+    put_options_twice(alloc, faults, settings)
 }

@@ -4,15 +4,16 @@ ghost use Rattle.std.specs.Prelude.{◌≡◌, ◌↔◌, ◌∷◌, ◌++◌, [
 ghost use Rattle.proto_base.specs.declared.kind.Kind.TheVariants.{ReservedNameTwice};
 ghost use Rattle.proto_checks.specs.Gathered.{reserved_name};
 ghost use Rattle.proto_options.specs.Statements.{names_in};
-ghost use Rattle.proto_base.specs.Least.{IsLeast};
+ghost use Rattle.proto_base.specs.Sets.{Gains};
 ghost use Rattle.proto_checks.specs.Marks.{TextTwice, ReservedNameUsed};
 ghost use Rattle.proto_checks.specs.NameSets.{HoldsJust};
 ghost use Rattle.proto_checks.specs.Parts.{name_mark};
 
+use crate::faults::put_fault;
 use crate::marks::PlacedText;
-use crate::repeats::{FEW, first_text_twice};
+use crate::repeats::{FEW, put_texts_twice};
 use proto_base::text::Text;
-use proto_base::{Kind, Spot, lesser};
+use proto_base::{Kind, Spot};
 use proto_desc::Declares;
 use proto_options::{Reserves, names_listed};
 use proto_tree::StringValue;
@@ -51,17 +52,19 @@ fn reserved_names<'s, I: Reserves<'s>>(
     Ok(names)
 }
 
-/// The first name that statements reserve though it is reserved already.
-pub(crate) fn first_reserved_twice<'s, I: Reserves<'s>>(
+/// Puts the names that statements reserve though they are reserved already.
+pub(crate) fn put_reserved_twice<'s, I: Reserves<'s>>(
     alloc: Global,
+    faults: &mut Vec<Spot>,
     items: &[I],
-) -> Result<Option<Spot>, AllocError>
-    ensures { IfOk result (λ first. IsLeast
+) -> Result<(), AllocError>
+    ensures { OnOk result (Gains
         (TextTwice ReservedNameTwice
-        (map reserved_name (flat_map names_in (flat_map I.reserved_by items.now)))) first) }
+        (map reserved_name (flat_map names_in (flat_map I.reserved_by items.now))))
+        faults.old.items faults.new.items) }
 {
     let names = reserved_names(alloc, items)?;
-    first_text_twice(alloc, Kind::ReservedNameTwice, &names)
+    put_texts_twice(alloc, faults, Kind::ReservedNameTwice, &names)
 }
 
 fn set_of<'a>(alloc: Global, names: &'a [Text]) -> Result<BTreeSet<&'a str>, AllocError>
@@ -85,33 +88,45 @@ fn is_reserved(reserved: &[Text], set: &Option<BTreeSet<&str>>, name: &str) -> b
     }
 }
 
-/// The first element whose name is reserved.
-pub(crate) fn first_reserved_name<D: Declares>(
+/// Puts the elements whose names are reserved: asks the set of the reserved names, if there is one.
+fn put_members_reserved<D: Declares>(
+    faults: &mut Vec<Spot>,
+    reserved: &[Text],
+    set: &Option<BTreeSet<&str>>,
+    members: &[D],
+) -> Result<(), AllocError>
+    requires { IfSome set.now (HoldsJust reserved.now) }
+    ensures { OnOk result (Gains
+        (ReservedNameUsed reserved.now (map (name_mark D.declared) members.now))
+        faults.old.items faults.new.items) }
+{
+    for member in members {
+        let declared = member.declared_name();
+        if is_reserved(reserved, set, declared.name) {
+            put_fault(faults, declared.place, Kind::ReservedNameUsed)?;
+        }
+    }
+    Ok(())
+}
+
+/// Puts the elements whose names are reserved.
+pub(crate) fn put_reserved_names_used<D: Declares>(
     alloc: Global,
+    faults: &mut Vec<Spot>,
     reserved: &[Text],
     members: &[D],
-) -> Result<Option<Spot>, AllocError>
-    ensures { IfOk result (λ first. IsLeast
-        (ReservedNameUsed reserved.now (map (name_mark D.declared) members.now)) first) }
+) -> Result<(), AllocError>
+    ensures { OnOk result (Gains
+        (ReservedNameUsed reserved.now (map (name_mark D.declared) members.now))
+        faults.old.items faults.new.items) }
 {
     if reserved.is_empty() {
-        return Ok(None);
+        return Ok(());
     }
     let set = if reserved.len() > FEW {
         Some(set_of(alloc, reserved)?)
     } else {
         None
     };
-    let mut first = None;
-    for member in members {
-        let declared = member.declared_name();
-        if is_reserved(reserved, &set, declared.name) {
-            let here = Some(Spot {
-                place: declared.place,
-                kind: Kind::ReservedNameUsed,
-            });
-            first = lesser(first, here);
-        }
-    }
-    Ok(first)
+    put_members_reserved(faults, reserved, &set, members)
 }

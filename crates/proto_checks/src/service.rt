@@ -1,43 +1,44 @@
 //! Rules on services and methods.
 
-ghost use Rattle.std.specs.Prelude.{IfOk};
+ghost use Rattle.std.specs.Prelude.{OnOk};
 ghost use Rattle.proto_options.specs.Statements.{service_rpc};
 ghost use Rattle.proto_checks.specs.Elements.{RpcBreaks, ServiceBreaks};
-ghost use Rattle.proto_base.specs.Least.{IsLeast};
-ghost use Rattle.proto_base.specs.Sets.{Each};
+ghost use Rattle.proto_base.specs.Sets.{Each, Gains};
 
-use crate::each::{Check, first_of};
-use crate::least::least_of;
-use crate::settings::statement_settings_fault;
+use crate::each::{Check, put_each};
+use crate::settings::put_statement_setting_faults;
 use proto_base::Spot;
 use proto_desc::rules::Element;
 use proto_options::rpc_items;
 use proto_tree::{Rpc, Service, ServiceItem};
 use std::alloc::{AllocError, Global};
 
-fn method_fault(alloc: Global, rpc: &Rpc) -> Result<Option<Spot>, AllocError>
-    ensures { IfOk result (λ first. IsLeast (RpcBreaks rpc.now) first) }
+fn put_method_faults(alloc: Global, faults: &mut Vec<Spot>, rpc: &Rpc) -> Result<(), AllocError>
+    ensures { OnOk result (Gains (RpcBreaks rpc.now) faults.old.items faults.new.items) }
 {
-    statement_settings_fault(alloc, Element::Method, rpc_items(&rpc.body))
+    put_statement_setting_faults(alloc, faults, Element::Method, rpc_items(&rpc.body))
 }
 
 impl Check for ServiceItem<'_> {
     ghost breaks = { λ item. Each (service_rpc item) RpcBreaks };
 
-    fn first_fault(&self, alloc: Global) -> Result<Option<Spot>, AllocError> {
+    fn put_faults(&self, alloc: Global, faults: &mut Vec<Spot>) -> Result<(), AllocError> {
         match self {
-            ServiceItem::Rpc(rpc) => method_fault(alloc, rpc.get()),
-            ServiceItem::Option(_) | ServiceItem::Empty(_) => Ok(None),
+            ServiceItem::Rpc(rpc) => put_method_faults(alloc, faults, rpc.get()),
+            ServiceItem::Option(_) | ServiceItem::Empty(_) => Ok(()),
         }
     }
 }
 
-/// The first fault of a service.
-pub(crate) fn service_fault(alloc: Global, service: &Service) -> Result<Option<Spot>, AllocError>
-    ensures { IfOk result (λ first. IsLeast (ServiceBreaks service.now) first) }
+/// Puts the faults of a service.
+pub(crate) fn put_service_faults(
+    alloc: Global,
+    faults: &mut Vec<Spot>,
+    service: &Service,
+) -> Result<(), AllocError>
+    ensures { OnOk result (Gains (ServiceBreaks service.now) faults.old.items faults.new.items) }
 {
     let items = service.items.as_slice();
-    let own = statement_settings_fault(alloc, Element::Service, items)?;
-    let methods = first_of(alloc, items)?;
-    Ok(least_of(&[own, methods]))
+    put_statement_setting_faults(alloc, faults, Element::Service, items)?;
+    put_each(alloc, faults, items)
 }

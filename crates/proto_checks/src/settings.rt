@@ -1,13 +1,14 @@
-//! The settings of an element, in source order, each judged by itself, and the first fault of them.
+//! The settings of an element, in source order, each judged by itself, and their faults.
 
 ghost use Rattle.std.specs.Prelude.{◌≡◌, ◌∷◌, ◌++◌, IfOk, OnOk, [], map, flat_map};
 ghost use Rattle.proto_options.specs.Options.{bracketed};
 ghost use Rattle.proto_tree.specs.Lists.{separated};
-ghost use Rattle.proto_base.specs.Least.{IsLeast};
+ghost use Rattle.proto_base.specs.Sets.{Gains};
 ghost use Rattle.proto_checks.specs.Judged.{judged};
 ghost use Rattle.proto_checks.specs.Options.{SettingsBreak};
 
-use crate::options::{Judged, judge, setting_fault, settings_fault};
+use crate::faults::put_found;
+use crate::options::{Judged, judge, put_setting_faults, setting_fault};
 use proto_base::Spot;
 use proto_base::boxed::Boxed;
 use proto_desc::rules::Element;
@@ -46,17 +47,18 @@ fn settings_of<'s, I: Item<'s>>(
     Ok(settings)
 }
 
-/// The first fault of the settings that the statements of an element make.
-pub(crate) fn statement_settings_fault<'s, I: Item<'s>>(
+/// Puts the faults of the settings that the statements of an element make.
+pub(crate) fn put_statement_setting_faults<'s, I: Item<'s>>(
     alloc: Global,
+    faults: &mut Vec<Spot>,
     element: Element,
     items: &[I],
-) -> Result<Option<Spot>, AllocError>
-    ensures { IfOk result (λ first. IsLeast
-        (SettingsBreak element (flat_map I.setting_of items.now)) first) }
+) -> Result<(), AllocError>
+    ensures { OnOk result (Gains (SettingsBreak element (flat_map I.setting_of items.now))
+        faults.old.items faults.new.items) }
 {
     let settings = settings_of(alloc, element, items)?;
-    settings_fault(alloc, &settings)
+    put_setting_faults(alloc, faults, &settings)
 }
 
 fn put_bracketed<'s>(
@@ -74,24 +76,25 @@ fn put_bracketed<'s>(
     Ok(())
 }
 
-/// The first fault of the settings of a field or of an enum value.
-pub(crate) fn bracketed_settings_fault(
+/// Puts the faults of the settings of a field or of an enum value.
+pub(crate) fn put_bracketed_setting_faults(
     alloc: Global,
+    faults: &mut Vec<Spot>,
     element: Element,
     options: &Option<Boxed<Options>>,
-) -> Result<Option<Spot>, AllocError>
-    ensures { IfOk result (λ first. IsLeast
-        (SettingsBreak element (bracketed options.now)) first) }
+) -> Result<(), AllocError>
+    ensures { OnOk result (Gains (SettingsBreak element (bracketed options.now))
+        faults.old.items faults.new.items) }
 {
     let Some(options) = options else {
-        return Ok(None);
+        return Ok(());
     };
     let listed = options.get();
     // Most stand alone, and so set nothing twice.
     if listed.settings.rest.as_slice().is_empty() {
-        return Ok(setting_fault(element, &listed.settings.first));
+        return put_found(faults, setting_fault(element, &listed.settings.first));
     }
     let mut settings = Vec::new(alloc);
     put_bracketed(alloc, &mut settings, element, listed)?;
-    settings_fault(alloc, &settings)
+    put_setting_faults(alloc, faults, &settings)
 }

@@ -5,10 +5,11 @@ use Rattle.share_work.specs.Shares.{GivesItems}
 use Rattle.proto_base.specs.Limits.{limit_of}
 use Rattle.proto_base.specs.declared.file_fault.FileError.{FileError}
 use Rattle.proto_base.specs.declared.file_fault.FileError.TheVariants as local
+use Rattle.proto_base.specs.FileFaults as file_faults
 use Rattle.proto_base.specs.declared.file_fault.FileFault.{FileFault}
 use Rattle.proto_base.specs.declared.kind.Kind.TheVariants as kind
 use Rattle.proto_base.specs.declared.limits.Limit.TheVariants as limit
-use Rattle.proto_file.proofs.OneLocal.{no_local, one_local}
+use Rattle.proto_file.proofs.OneLocal.{no_own}
 use Rattle.proto_file.specs.Local.{IsLocalFault}
 use Rattle.proto_links.specs.Imports as imports
 use Rattle.proto_links.specs.Bad as bad_imports
@@ -35,7 +36,7 @@ same_name file more = (let e = tied_itself nat_list_cmp_total file in cc)
 no_name_first : (name : List ℕ) → slice_cmp nat_cmp [] name ≢ Greater
 no_name_first name = grind (arith, same_name)
 
-no_later_itself : (x : SourceFault) → IsNoLater x x
+pub no_later_itself : (x : SourceFault) → IsNoLater x x
 no_later_itself x = grind (arith, nat_tests, same_name)
 
 -- of two orders, of which neither comes later, what comes first is one, and so it goes on
@@ -77,6 +78,11 @@ pub err_tells : {T : Type 0} (P Q : SourceFault → Type 0) (r : Result T Compil
 err_tells P Q r h = IfErr-weaker r (TellsOf P) (TellsOf Q) (tells_more P Q h)
 
 -- ---- faults of files
+
+-- of one file
+of_one_file : (pass : ℕ) (file : List ℕ) (f g : FileFault) → file_faults.IsNoLater f g
+    → IsNoLater (fault pass file f) (fault pass file g)
+of_one_file pass file f g order = grind (arith, nat_tests, same_name)
 
 -- of two files of a list whose names rise
 later_file : (pass : ℕ) (descs : List FileDesc) (a b : ℕ) (x y : Spot) → NamesRise (map imports.name_of descs)
@@ -127,7 +133,7 @@ twice_order a o order = grind (arith, cases_lt)
 module _ (limits : Limits) (sources : List Source) where
   -- ---- pass by pass, where sources have passed
 
-  none_of_list : (files : List Source) → length sources ≤ limit_of limits limit.Files → AreByName sources files
+  pub none_of_list : (files : List Source) → length sources ≤ limit_of limits limit.Files → AreByName sources files
       → NoneBefore limits sources 1
   none_of_list files few order _ (many_files over) less = omega (arith, few, over)
   none_of_list files few order _ (repeated_file_name i j before below same) less =
@@ -141,7 +147,7 @@ module _ (limits : Limits) (sources : List Source) where
   none_of_files d _ (file_fault s f inside wrong) less =
       let (b, below, at) = Contains-permutation sources _ s d.by_name.all inside in
       let (desc, is) = zipped_at (SourceDescribes limits) _ _ b s d.each (below, at) in
-      no_local limits (name_of s) (text_of s) desc f is wrong
+      no_own limits (name_of s) (text_of s) desc f is wrong
   none_of_files d y breaks less = none_of_list _ d.few d.by_name y breaks (omega (arith, less))
 
   none_of_imports : {files : List Source} {descs : List FileDesc} → Describe limits sources files descs
@@ -270,7 +276,7 @@ module _ (limits : Limits) (sources : List Source) where
       → IsLeastFault limits sources (fault 1 (name_of s) f)
   local_least files k s f few order at wrong before =
       let inside = moved order.all (IsPermutation-refl sources) s (k, at.0, at.1) in
-      least_of (fault 1 (name_of s) f) (file_fault s f inside wrong) (none_of_list files few order) own
+      least_of (fault 1 (name_of s) f) (file_fault s f inside wrong.among) (none_of_list files few order) own
     where
       own : IsFirst (fault 1 (name_of s) f)
       own _ (file_fault t g within also) same =
@@ -278,15 +284,14 @@ module _ (limits : Limits) (sources : List Source) where
           elim (cases_order k b) [
             | inl here ↦ (
                 let one = standing_one files k s t at.0 at.1 (rw (← here) at is) in
-                let told = one_local limits (name_of s) (text_of s) f g wrong (rw (← one) at also) in
-                rw (← one, told) (no_later_itself (fault 1 (name_of s) g)))
+                rw (← one) (of_one_file 1 (name_of s) f g (wrong.least g (rw (← one) at also))))
             | inr (inl less) ↦ (
                 let rise = rise_far (map name_of files) order.rises k b less in
                 let name = name_of_item files k s at.0 (sym at.1) in
                 grind (arith, nat_tests, length-map, rise, name, name_of_item files b t below (sym is)))
             | inr (inr over) ↦ (
                 let d = before b t over (below, is) in
-                absurd (no_local limits (name_of t) (text_of t) d.0 g d.1 also))
+                absurd (no_own limits (name_of t) (text_of t) d.0 g d.1 also))
           ]
       own y breaks same = absurd (omega (arith, same))
 

@@ -1,7 +1,7 @@
 -- The faults of sources: what breaks a rule of a pass, what of it is judged, and the first.
 use Rattle.std.specs.Prelude.{◌≡◌, ◌≢◌, ◌⊎◌, ℕ, ◌<◌, ◌≤◌, List, [], length, string_bytes, Contains}
 use Rattle.std.specs.List.{AllZip}
-use Rattle.std.specs.declared.cmp.Ordering.TheVariants.{Greater}
+use Rattle.std.specs.declared.cmp.Ordering.TheVariants.{Greater, Less}
 use Rattle.proto_base.specs.Fault.{Found, found_cmp}
 use Rattle.proto_base.specs.FileFaults.{at_step}
 use Rattle.proto_base.specs.Kind.{number_of}
@@ -16,7 +16,7 @@ use Rattle.proto_base.specs.declared.limits.Limit.TheVariants as limit
 use Rattle.proto_base.specs.declared.limits.Limits.{Limits}
 use Rattle.proto_base.specs.declared.place.Place.{Place}
 use Rattle.proto_desc.specs.declared.file.FileDesc.{FileDesc}
-use Rattle.proto_file.specs.Local.{IsLocalFault}
+use Rattle.proto_file.specs.Local.{IsOwnFault}
 use Rattle.proto_links.specs.Imports as imports
 use Rattle.proto_links.specs.Linked.{Linked}
 use Rattle.proto_links.specs.Visible.{Sees}
@@ -68,7 +68,7 @@ pub data Breaks (limits : Limits) (sources : List Source) : SourceFault → Type
   many_files : limit_of limits limit.Files < length sources → Breaks limits sources (of_list 0 kind.TooManyFiles)
   repeated_file_name : (i j : ℕ) → i < j → j < length sources → name_at sources i ≡ name_at sources j
       → Breaks limits sources (of_file 0 (name_at sources i) start kind.FileNameTwice)
-  file_fault : (s : Source) (f : FileFault) → Contains sources s → IsLocalFault limits (name_of s) (text_of s) f
+  file_fault : (s : Source) (f : FileFault) → Contains sources s → IsOwnFault limits (name_of s) (text_of s) f
       → Breaks limits sources (fault 1 (name_of s) f)
   bad_import : (descs : List FileDesc) (a : ℕ) (place : Place) (what : Kind) → AreDescribed limits sources descs
       → imports.IsBad descs a place what → Breaks limits sources (of_file 2 (imports.name_at descs a) place what)
@@ -102,6 +102,9 @@ numbered x = record { pass = x.pass; file = x.file; step = x.step; place = x.pla
 
 abbrev pub IsNoLater : SourceFault → SourceFault → Type 0
 IsNoLater x y = found_cmp (numbered x) (numbered y) ≢ Greater
+
+abbrev pub IsEarlier : SourceFault → SourceFault → Type 0
+IsEarlier x y = found_cmp (numbered x) (numbered y) ≡ Less
 
 -- the first of them
 abbrev pub IsLeastFault : Limits → List Source → SourceFault → Type 0

@@ -4,3 +4,4 @@ pub mod FileWithin
 pub mod LocalPlaces
 pub mod AfterFirst
 pub mod OneLocal
+pub mod Ruled

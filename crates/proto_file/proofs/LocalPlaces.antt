@@ -18,7 +18,7 @@ use Rattle.proto_desc.specs.declared.file.FileDesc.{FileDesc}
 use Rattle.proto_file.specs.Places.{AllWithin}
 use Rattle.proto_file.proofs.PlacesWithin.{BeginWithin, Within, begun, lowered_within, upto}
 use Rattle.proto_file.proofs.FileWithin.{breaks_within}
-use Rattle.proto_file.specs.Local.{Describes, IsFile, IsLocalFault, of_tokens, of_grammar, of_checks}
+use Rattle.proto_file.specs.Local.{Describes, IsFile, IsOwnFault, of_tokens, of_grammar, of_text, of_rules}
 use Rattle.proto_syntax.specs.Told.{place_of_token}
 
 -- ---- tokens
@@ -76,17 +76,17 @@ pub record IsInside (limits : Limits) (text : List ℕ) (place : Place) : Type 0
   pub within : place.offset ≤ length text
   pub short : place.offset ≤ limit_of limits limit.FileBytes
 
-pub fault_inside : (limits : Limits) (name text : List ℕ) (f : FileFault) → IsLocalFault limits name text f
+pub fault_inside : (limits : Limits) (name text : List ℕ) (f : FileFault) → IsOwnFault limits name text f
     → IsInside limits text f.spot.place
-fault_inside limits name text f (of_tokens at_step fault) =
+fault_inside limits name text f (of_text (of_tokens at_step fault)) =
     let within : f.spot.place.offset ≤ length text = token_fault_within _ text _ f.spot.kind fault in
     record { within = within; short = grind arith }
-fault_inside limits name text f (of_grammar at_step (ts, k, is, fault, is_kind, at)) =
+fault_inside limits name text f (of_text (of_grammar at_step (ts, k, is, fault, is_kind, at))) =
     let within = token_begins (length text) ts k (tokens_begin _ text ts is) in
     record { within = omega (arith, within, at); short = omega (arith, within, at, is.short) }
-fault_inside limits name text f (of_checks at_step (file, is, least)) =
+fault_inside limits name text f (of_rules file is at_step breaks) =
     let within : f.spot.place.offset ≤ length text =
-    breaks_within (length text) limits name file f.spot (tree_begins limits text file is) least.is.among in
+    breaks_within (length text) limits name file f.spot (tree_begins limits text file is) breaks in
     record { within = within; short = omega (arith, within, is.1.short) }
 
 -- all places of a descriptor are those of its text

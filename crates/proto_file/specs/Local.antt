@@ -1,5 +1,5 @@
 -- What one source is by itself.
-use Rattle.std.specs.Prelude.{◌≡◌, ℕ, List, length, Some}
+use Rattle.std.specs.Prelude.{◌≡◌, ℕ, List, length}
 use Rattle.proto_base.specs.Limits.{limit_of}
 use Rattle.proto_tokens.specs.Spelling.{IsTokenList, IsFault}
 use Rattle.proto_tokens.specs.Token.{Spelled}
@@ -14,7 +14,8 @@ use Rattle.proto_tree.specs.declared.file.FileTree.{FileTree}
 use Rattle.proto_lower.specs.Files.{lowered}
 use Rattle.proto_desc.specs.declared.file.FileDesc.{FileDesc}
 use Rattle.proto_checks.specs.Checks.{FileBreaks}
-use Rattle.proto_base.specs.Least.{IsLeast}
+use Rattle.proto_base.specs.FileFaults.{IsNoLater}
+use Rattle.proto_base.specs.Least.{IsLeastBy}
 use Rattle.proto_base.specs.declared.spot.Spot.{Spot}
 
 -- the text is a file within the limits, with this tree
@@ -38,15 +39,18 @@ IsGrammarFault limits text place kind =
     × IsFaultAt (limit_of limits limit.Depth) ts k
     × IsKindOf ts k kind × (place ≡ place_of_token ts k (length text))
 
--- the text is a file that breaks rules, of which this is the first
-abbrev pub IsBrokenAt : Limits → (name text : List ℕ) → Spot → Type 0
-IsBrokenAt limits name text x = (file : FileTree) × IsFile limits text file
-    × IsLeast (FileBreaks limits file (lowered name file)) (Some x)
-
--- the first fault of one source by itself: a later step is judged where there is none in the earlier ones
-pub data IsLocalFault (limits : Limits) (name text : List ℕ) (f : FileFault) : Type 0 where
+-- why the text is no file: the first fault of its tokens, or else of the grammar
+pub data IsTextFault (limits : Limits) (text : List ℕ) (f : FileFault) : Type 0 where
   of_tokens : f.step ≡ 0 → IsFault (limit_of limits limit.FileBytes) text f.spot.place.offset f.spot.kind
-      → IsLocalFault limits name text f
-  of_grammar : f.step ≡ 1 → IsGrammarFault limits text f.spot.place.offset f.spot.kind
-      → IsLocalFault limits name text f
-  of_checks : f.step ≡ 2 → IsBrokenAt limits name text f.spot → IsLocalFault limits name text f
+      → IsTextFault limits text f
+  of_grammar : f.step ≡ 1 → IsGrammarFault limits text f.spot.place.offset f.spot.kind → IsTextFault limits text f
+
+-- a fault of one source by itself: why it is no file, or else each rule that it breaks
+pub data IsOwnFault (limits : Limits) (name text : List ℕ) (f : FileFault) : Type 0 where
+  of_text : IsTextFault limits text f → IsOwnFault limits name text f
+  of_rules : (file : FileTree) → IsFile limits text file → f.step ≡ 2
+      → FileBreaks limits file (lowered name file) f.spot → IsOwnFault limits name text f
+
+-- the first of these faults, by step, place and the kind's number
+abbrev pub IsLocalFault : Limits → (name text : List ℕ) → FileFault → Type 0
+IsLocalFault limits name text = IsLeastBy IsNoLater (IsOwnFault limits name text)

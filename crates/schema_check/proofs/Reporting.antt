@@ -6,6 +6,7 @@ use Rattle.std.proofs.lemmas.Slice.Zip.{all_zipped_more}
 use Rattle.std.specs.List.{AllZip, concat}
 use Rattle.fault_report.specs.Excerpts.{IsExcerpt}
 use Rattle.fault_report.specs.declared.excerpt.Excerpt.{Excerpt}
+use Rattle.fault_report.specs.declared.form.Form.{Form}
 use Rattle.proto_base.specs.declared.fault.Fault.{Fault}
 use Rattle.proto_base.specs.Limits.{limit_of}
 use Rattle.proto_base.specs.declared.limits.Limit.TheVariants.{FileBytes}
@@ -20,42 +21,25 @@ use Rattle.schema_sources.specs.Places.{folder_in}
 use Rattle.schema_sources.specs.declared.places.Places.{Places}
 
 -- what was put behind each of some faults
-abbrev pub IsBody : Limits → Places → List Source → List Fault → List ℕ → Type 0
-IsBody limits places sources faults body = (blocks : List (List ℕ)) × AllZip
-    (IsBlock limits places sources) faults blocks × (body ≡ concat blocks)
+abbrev pub IsBody : Form → Limits → Places → List Source → List Fault → List ℕ → Type 0
+IsBody form limits places sources faults body = (blocks : List (List ℕ)) × AllZip
+    (IsBlock form limits places sources) faults blocks × (body ≡ concat blocks)
 
-pub block_more : (limits : Limits) (places : Places) (sources : List Source) (faults : List Fault) (k : ℕ) (f : Fault)
+pub block_more : (form : Form) (limits : Limits) (places : Places) (sources : List Source) (faults : List Fault) (k : ℕ) (f : Fault)
     (old new : List ℕ) → k < length faults
-    → f ≡ get_or faults k f → IsBody limits places sources (take k faults) old
-    → AddsBlock limits places sources f old new
-    → IsBody limits places sources (take (k + 1) faults) new
-block_more limits places sources faults k f old new h is (blocks, all, so_far) (block, said, added) =
-    let more : AllZip (IsBlock limits places sources) (take k faults ++ f ∷ []) (blocks ++ block ∷ []) =
-    all_zipped_more (IsBlock limits places sources) (take k faults) blocks f block all said in
+    → f ≡ get_or faults k f → IsBody form limits places sources (take k faults) old
+    → AddsBlock form limits places sources f old new
+    → IsBody form limits places sources (take (k + 1) faults) new
+block_more form limits places sources faults k f old new h is (blocks, all, so_far) (block, said, added) =
+    let more : AllZip (IsBlock form limits places sources) (take k faults ++ f ∷ []) (blocks ++ block ∷ []) =
+    all_zipped_more (IsBlock form limits places sources) (take k faults) blocks f block all said in
     let whole : new ≡ concat (blocks ++ block ∷ []) =
     added ∙ ap (λ (xs : List ℕ). xs ++ block) so_far
     ∙ ap (λ (xs : List ℕ). concat blocks ++ xs) (sym (append-nil block))
     ∙ sym (concat-append blocks (block ∷ [])) in
-    let P : Fault → Type 0 = λ g. AllZip (IsBlock limits places sources) (take k faults ++ g ∷ []) (blocks
+    let P : Fault → Type 0 = λ g. AllZip (IsBlock form limits places sources) (take k faults ++ g ∷ []) (blocks
     ++ block ∷ []) in
     rw (take_more faults k f h) (blocks ++ block ∷ [], subst P is more, whole)
-
--- ---- one block
-
--- a text that is the line of a fault and the rows of its excerpt
-pub placed_text : {T E : Type 0} (bytes : T → List ℕ) (limits : Limits) (places : Places) (folder slash file : List ℕ)
-    (f : Fault) (s : Source) (e : Excerpt) (r : Result T E)
-    → IsExcerpt (limit_of limits FileBytes) (text_of s) f.place.offset e → folder ≡ folder_in places file
-    → slash ≡ slash_behind folder → file ≡ string_bytes f.file
-    → IfOk r (λ t. bytes t ≡ place_text (shown_name folder) slash (shown_name file) f.kind e)
-    → IfOk r (λ t. IsPlaceOf limits places f s (bytes t))
-placed_text bytes limits places folder slash file f s e (Ok t) is within behind named said =
-    let P : List ℕ → Type 0 = λ x. bytes t ≡ place_text (shown_name folder) x (shown_name file) f.kind e in
-    let Q : List ℕ → Type 0 = λ x. bytes t ≡ place_text (shown_name x) (slash_behind x) (shown_name file) f.kind e in
-    let R : List ℕ → Type 0 = λ x. bytes t
-    ≡ place_text (shown_name (folder_in places x)) (slash_behind (folder_in places x)) (shown_name x) f.kind e in
-    (e, is, subst R named (subst Q within (subst P behind said)))
-placed_text bytes limits places folder slash file f s e (Err x) is within behind named said = tt
 
 -- a told fault stands within the text of its file
 pub lies_within : (sources : List Source) (faults : List Fault) (k : ℕ) (f : Fault) → k < length faults

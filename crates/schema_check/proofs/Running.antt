@@ -4,6 +4,7 @@ use Rattle.counted_io.specs.Runs.{IsWriteRun}
 use Rattle.counted_io.specs.Streams.{Writes}
 use Rattle.counted_io.specs.declared.stream.IoFault.{IoFault}
 use Rattle.counted_io.specs.declared.stream.IoFault.TheVariants as io
+use Rattle.fault_report.specs.declared.form.Form.{Form}
 use Rattle.proto_base.specs.declared.limits.Limits.{Limits}
 use Rattle.schema_check.specs.Runs.{IsCheckRun, IsFound}
 use Rattle.schema_failure.specs.Faults.{IsUnread, of_exchange, of_folder, of_folder_fault}
@@ -22,16 +23,16 @@ abbrev failed : Failure → Result Verdict Failure
 failed f = Err f
 
 -- what a `?` hands on of a writing that failed
-pub unwritten : (options : CustomOptions) (limits : Limits) (places : Places) (texts : List NamedText) (old new : Writes) (judged : Verdict)
+pub unwritten : (options : CustomOptions) (form : Form) (limits : Limits) (places : Places) (texts : List NamedText) (old new : Writes) (judged : Verdict)
     (report : List ℕ) (fault : IoFault) (r : Result Verdict Failure) → IsErrAnd r (λ e. e ≡ of_exchange fault)
-    → IsFound options limits places texts judged report → IsWriteRun {A = Unit {0}} old new report (Err fault)
-    → IsCheckRun options limits places texts old new r
-unwritten options limits places texts old new judged report fault (Ok a) handed is run = absurd handed
-unwritten options limits places texts old new judged report io.ReadFault (Err e) handed is run = absurd run
-unwritten options limits places texts old new judged report (io.WriteFault written) (Err e) handed is run =
-    let P : Failure → Type 0 = λ x. IsCheckRun options limits places texts old new (failed x) in
+    → IsFound options form limits places texts judged report → IsWriteRun {A = Unit {0}} old new report (Err fault)
+    → IsCheckRun options form limits places texts old new r
+unwritten options form limits places texts old new judged report fault (Ok a) handed is run = absurd handed
+unwritten options form limits places texts old new judged report io.ReadFault (Err e) handed is run = absurd run
+unwritten options form limits places texts old new judged report (io.WriteFault written) (Err e) handed is run =
+    let P : Failure → Type 0 = λ x. IsCheckRun options form limits places texts old new (failed x) in
     subst P (sym handed) (judged, report, is, written, run)
-unwritten options limits places texts old new judged report io.NoMemory (Err e) handed is run = absurd run
+unwritten options form limits places texts old new judged report io.NoMemory (Err e) handed is run = absurd run
 
 -- and of a folder that could not be read
 unread_by : (writes : Writes) (fault : FolderFault) (entry : Option TroubledEntry) (r : Result Verdict Failure)

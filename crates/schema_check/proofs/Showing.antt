@@ -2,6 +2,7 @@
 use Rattle.std.proofs.Common.{◌≡◌, ◌∙◌, sym, ap, ℕ, ◌<◌, ◌≤◌, List, [], ◌∷◌, length, map, get_or, arith, Contains, string_bytes, refl, Result, Ok, Err, IfOk}
 use Rattle.std.proofs.lemmas.List.{get_or-map, length-map}
 use Rattle.std.proofs.lemmas.List.Elements.{Contains-get_or}
+use Rattle.fault_report.specs.declared.form.Form.{Form}
 use Rattle.proto_base.specs.declared.fault.Fault.{Fault}
 use Rattle.proto_base.specs.declared.limits.Limits.{Limits}
 use Rattle.proto_compile.specs.Sources.{name_of, text_of}
@@ -68,11 +69,11 @@ shown_lines sources shown texts are for =
     ends_of_sources shown ∙ ap (λ bytes. map line_ends bytes) are.bytes ∙ sym (ends_of_texts texts) ∙ for.1
 
 -- a report over the sources as they are shown
-pub shown_so : {T E : Type 0} (bytes : T → List ℕ) (options : CustomOptions) (limits : Limits) (places : Places)
+pub shown_so : {T E : Type 0} (bytes : T → List ℕ) (options : CustomOptions) (form : Form) (limits : Limits) (places : Places)
     (sources shown : List Source) (faults : List Fault) (r : Result T E) → options ≡ Skip
     → map name_of shown ≡ map name_of sources → map line_ends_of shown ≡ map line_ends_of sources
-    → IfOk r (λ t. IsReport limits places shown faults (bytes t))
-    → IfOk r (λ t. IsShownReport options limits places sources faults (bytes t))
-shown_so bytes options limits places sources shown faults (Ok t) skips names lines report =
+    → IfOk r (λ t. IsReport form limits places shown faults (bytes t))
+    → IfOk r (λ t. IsShownReport options form limits places sources faults (bytes t))
+shown_so bytes options form limits places sources shown faults (Ok t) skips names lines report =
     (shown, rw skips (names, lines), report)
-shown_so bytes options limits places sources shown faults (Err e) skips names lines report = tt
+shown_so bytes options form limits places sources shown faults (Err e) skips names lines report = tt

@@ -1,41 +1,41 @@
 -- From the first fault of sources to those that are told.
-use Rattle.std.proofs.Common.{◌≡◌, ◌≢◌, sym, ap, subst, refl, List, [], ◌∷◌, inl, inr, Option, Some, map, arith, Contains}
-use Rattle.file_faults.specs.OwnFaults.{AreFileFaults, HasFault, NamesDiffer}
+use Rattle.std.proofs.Common.{◌≡◌, ◌≢◌, sym, ap, subst, refl, List, [], ◌∷◌, inl, inr, Option, Some, map, arith, Contains, ◌↔◌}
+use Rattle.file_faults.specs.OwnFaults.{AreFileFaults, NamesDiffer}
 use Rattle.file_faults.proofs.Placing.{placed}
-use Rattle.file_faults.proofs.Telling.{every_fault, no_other}
+use Rattle.file_faults.proofs.Telling.{all_faults, no_other, own_told}
 use Rattle.proto_base.specs.declared.fault.Fault.{Fault}
 use Rattle.proto_base.specs.declared.kind.Kind.TheVariants as kind
 use Rattle.proto_base.specs.declared.limits.Limits.{Limits}
-use Rattle.proto_compile.specs.FaultSet.{Breaks, IsFault, IsLeastFault, IsPlaced, SourceFault, bad_import, bad_type, file_fault, long_descriptor, long_set, many_files, many_names, of_file, repeated_file_name, repeated_name, start, TellsOf, told_by}
+use Rattle.proto_compile.specs.FaultSet.{IsFault, IsLeastFault, IsPlaced, SourceFault, of_file, repeated_file_name, start, TellsOf, told_by}
 use Rattle.proto_compile.specs.Sources.{name_at}
+use Rattle.proto_compile.proofs.Placing.{NoneBefore}
 use Rattle.proto_compile.specs.declared.error.CompileError.{CompileError}
 use Rattle.proto_compile.specs.declared.error.CompileError.TheVariants as errors
 use Rattle.proto_compile.specs.declared.source.Source.{Source}
 use Rattle.schema_check.specs.Told.{ArePlaced, AreTold, IsFirst}
 use Rattle.share_work.proofs.Sums.{in_map, none_in}
 
--- what is broken in the pass over each source by itself is a source's own fault
-own_fault : (limits : Limits) (sources : List Source) (x : SourceFault) → Breaks limits sources x → x.pass ≡ 1
-    → (s : Source) × Contains sources s × HasFault limits s x
-own_fault limits sources _ (many_files over) pass = absurd (omega (arith, pass))
-own_fault limits sources _ (repeated_file_name i j less below same) pass = absurd (omega (arith, pass))
-own_fault limits sources _ (file_fault s f inside fault) pass = (s, inside, (f, fault, refl))
-own_fault limits sources _ (bad_import descs a place what described bad) pass = absurd (omega (arith, pass))
-own_fault limits sources _ (many_names descs described over) pass = absurd (omega (arith, pass))
-own_fault limits sources _ (repeated_name descs o described twice) pass = absurd (omega (arith, pass))
-own_fault limits sources _ (bad_type descs a desc place what described stands breaks) pass = absurd (omega
-    (arith, pass))
-own_fault limits sources _ (long_descriptor files typed links index a desc resolved stands over) pass = absurd
-    (omega (arith, pass))
-own_fault limits sources _ (long_set c written over) pass = absurd (omega (arith, pass))
+-- where a file's own fault is the first, nothing is wrong with the list of sources
+none_early : (limits : Limits) (sources : List Source) (x : SourceFault) → IsFault limits sources x → x.pass ≡ 1
+    → NoneBefore limits sources 1
+none_early limits sources x is pass y breaks less = is.judged y breaks (omega (arith, less, pass))
 
 pub told_locally : (limits : Limits) (sources : List Source) (first : Fault) (faults : List Fault)
     → IsLeastFault limits sources (told_by first)
     → first.pass ≡ 1 → AreFileFaults limits sources (map told_by faults) → AreTold limits sources faults
-told_locally limits sources first [] least pass all =
-    let (s, inside, has) = own_fault limits sources (told_by first) least.among.breaks pass in
-    absurd (none_in (told_by first) (every_fault limits sources [] s (told_by first) all inside has))
-told_locally limits sources first (f ∷ faults) least pass all = (first, least, inl (pass, all))
+told_locally limits sources first faults least pass all = by faults all
+    where
+      same : (s : Source) → Contains sources s ↔ Contains sources s
+      same s = (λ h. h, λ h. h)
+
+      inside : (xs : List SourceFault) → AreFileFaults limits sources xs → Contains xs (told_by first)
+      inside xs all = own_told limits sources sources xs same all (told_by first) least.among.breaks pass
+
+      by : (faults : List Fault) → AreFileFaults limits sources (map told_by faults) → AreTold limits sources faults
+      by [] all = absurd (none_in (told_by first) (inside [] all))
+      by (f ∷ faults) all = (first, least, inl (pass, all_faults limits sources sources (map told_by (f ∷ faults)) same
+          all (none_early limits sources (told_by first) least.among pass) (told_by first)
+          (inside (map told_by (f ∷ faults)) all), all))
 
 pub first_told : (limits : Limits) (sources : List Source) (e : CompileError) (first : Fault) → e ≡ errors.First first
     → TellsOf (IsLeastFault limits sources) e → TellsOf (λ x. IsPlaced limits sources x.file x.place) e
@@ -55,8 +55,8 @@ told_alone limits sources first least later = (first, least, inr (later, refl, r
 names_differ : (limits : Limits) (sources : List Source) (x : SourceFault) → IsFault limits sources x → x.pass ≡ 1
     → NamesDiffer sources
 names_differ limits sources x is pass i j less below same =
-    is.judged (of_file 0 (name_at sources i) start kind.FileNameTwice) (repeated_file_name i j less below same)
-    (omega (arith, pass))
+    none_early limits sources x is pass (of_file 0 (name_at sources i) start kind.FileNameTwice)
+    (repeated_file_name i j less below same) (omega arith)
 
 pub placed_locally : (limits : Limits) (sources : List Source) (first : Fault) (faults : List Fault)
     → IsLeastFault limits sources (told_by first)

@@ -1,4 +1,5 @@
 pub mod Added
+pub mod Escapes
 pub mod Reports
 pub mod Runs
 pub mod Texts

@@ -2,6 +2,7 @@
 use Rattle.std.specs.Prelude.{◌≡◌, ◌⊎◌, ℕ, List, [], ◌∷◌, IsErrAnd, Result, Ok, Err}
 use Rattle.counted_io.specs.Runs.{IsWritten, IsWrittenInPart}
 use Rattle.counted_io.specs.Streams.{Writes}
+use Rattle.fault_report.specs.declared.form.Form.{Form}
 use Rattle.proto_base.specs.declared.fault.Fault.{Fault}
 use Rattle.proto_base.specs.declared.limits.Limits.{Limits}
 use Rattle.proto_compile.specs.declared.source.Source.{Source}
@@ -25,34 +26,34 @@ verdict_of [] = verdict.Sound
 verdict_of (f ∷ faults) = verdict.Faulty
 
 -- what is said of faults of sources, by their texts as they are shown
-abbrev pub IsShownReport : CustomOptions → Limits → Places → List Source → List Fault → List ℕ → Type 0
-IsShownReport options limits places sources faults report =
-    (shown : List Source) × AreShownAs options sources shown × IsReport limits places shown faults report
+abbrev pub IsShownReport : CustomOptions → Form → Limits → Places → List Source → List Fault → List ℕ → Type 0
+IsShownReport options form limits places sources faults report =
+    (shown : List Source) × AreShownAs options sources shown × IsReport form limits places shown faults report
 
 -- which faults sources have, and what is said of them
-abbrev pub AreFindings : CustomOptions → Limits → Places → List Source → Verdict → List ℕ → Type 0
-AreFindings options limits places sources judged report = (faults : List Fault) × AreTold limits sources faults
-    × (judged ≡ verdict_of faults) × IsShownReport options limits places sources faults report
+abbrev pub AreFindings : CustomOptions → Form → Limits → Places → List Source → Verdict → List ℕ → Type 0
+AreFindings options form limits places sources judged report = (faults : List Fault) × AreTold limits sources faults
+    × (judged ≡ verdict_of faults) × IsShownReport options form limits places sources faults report
 
-abbrev pub IsFound : CustomOptions → Limits → Places → List NamedText → Verdict → List ℕ → Type 0
-IsFound options limits places texts judged report =
-    (sources : List Source) × AreSourcesOf texts sources × AreFindings options limits places sources judged report
+abbrev pub IsFound : CustomOptions → Form → Limits → Places → List NamedText → Verdict → List ℕ → Type 0
+IsFound options form limits places texts judged report =
+    (sources : List Source) × AreSourcesOf texts sources × AreFindings options form limits places sources judged report
 
 -- the report was written whole; or memory was short, and nothing was; or a call of the writer failed
-abbrev pub IsCheckRun : CustomOptions → Limits → Places → List NamedText → Writes → Writes → Result Verdict Failure
+abbrev pub IsCheckRun : CustomOptions → Form → Limits → Places → List NamedText → Writes → Writes → Result Verdict Failure
     → Type 0
-IsCheckRun options limits places texts old new (Ok judged) =
-    (report : List ℕ) × IsFound options limits places texts judged report × IsWritten old new report
-IsCheckRun options limits places texts old new (Err failure.NoMemory) = new ≡ old
-IsCheckRun options limits places texts old new (Err (failure.Device device.Output error)) = (judged : Verdict) × (report : List ℕ)
-    × IsFound options limits places texts judged report × (written : ℕ) × IsWrittenInPart old new report written
-IsCheckRun options limits places texts old new (Err other) = ⊥
+IsCheckRun options form limits places texts old new (Ok judged) =
+    (report : List ℕ) × IsFound options form limits places texts judged report × IsWritten old new report
+IsCheckRun options form limits places texts old new (Err failure.NoMemory) = new ≡ old
+IsCheckRun options form limits places texts old new (Err (failure.Device device.Output error)) = (judged : Verdict) × (report : List ℕ)
+    × IsFound options form limits places texts judged report × (written : ℕ) × IsWrittenInPart old new report written
+IsCheckRun options form limits places texts old new (Err other) = ⊥
 
 -- `check`: the folder could not be read, or memory was short, and nothing was written; or its texts were checked, some of
 -- which may lie elsewhere than in the root
-abbrev pub IsFolderCheck : KnownSources → List ℕ → Writes → Writes → Result Verdict Failure → Type 0
-IsFolderCheck known root old new done =
+abbrev pub IsFolderCheck : KnownSources → Form → List ℕ → Writes → Writes → Result Verdict Failure → Type 0
+IsFolderCheck known form root old new done =
     (limits : Limits) × AreStandard limits
     × (IsErrAnd done (λ f. (IsUnread f ⊎ (f ≡ failure.NoMemory)) × (new ≡ old))
     ⊎ ((texts : List NamedText) × AreTextsOf limits known texts × (places : Places) × (places.root.now ≡ root)
-    × IsCheckRun known.custom_options limits places texts old new done))
+    × IsCheckRun known.custom_options form limits places texts old new done))

@@ -1,15 +1,20 @@
 //! What is said of one fault.
 
-ghost use Rattle.std.specs.Prelude.{◌≡◌, ◌<◌, ◌≤◌, ◌-◌, ◌^◌, IfOk, OnOk, length, string_bytes};
+ghost use Rattle.std.specs.Prelude.{◌≡◌, ◌<◌, ◌≤◌, ◌-◌, ◌^◌, ◌∷◌, ◌++◌, [], codes, IfOk, OnOk, length, string_bytes};
+ghost use Rattle.fault_report.specs.declared.form.Form.TheVariants as forms;
+ghost use Rattle.proto_base.specs.Kind.{name_of};
+ghost use Rattle.proto_base.specs.Lines.{column_at, line_at};
 ghost use Rattle.proto_compile.specs.Sources.{text_of};
-ghost use Rattle.schema_check.specs.Added.{AddsBlock, AddsSome};
-ghost use Rattle.schema_check.specs.Reports.{IsHeadOf, IsPlaceOf, list_text, place_text, slash_behind};
+ghost use Rattle.schema_check.specs.Added.{AddsBlock, AddsMore};
+ghost use Rattle.schema_check.specs.Reports.{IsHeadOf, IsListText, IsPlaceOf, gcc_text, github_text, json_row, place_text, slash_behind};
 ghost use Rattle.schema_check.specs.Told.{LiesWithin};
 ghost use Rattle.schema_failure.specs.Lines.{shown_name};
 ghost use Rattle.schema_compile.specs.Placed.{source_named};
 
-use fault_report::{Excerpt, excerpt_at};
-use proto_base::{Fault, Kind, Limits};
+use crate::escaped::{CommandMessage, CommandProperty, JsonText};
+use crate::message::Message;
+use fault_report::{Excerpt, Form, excerpt_at};
+use proto_base::{Fault, Kind, Limits, line_column};
 use proto_compile::Source;
 use schema_compile::source_named;
 use schema_explanation::Topic;
@@ -19,7 +24,7 @@ use std::alloc::{AllocError, Global};
 use std::fmt::Write;
 
 /// What stands between a root and the name of a file below it.
-fn slash_behind(root: &str) -> &'static str
+pub(crate) fn slash_behind(root: &str) -> &'static str
     ensures { result.now ≡ slash_behind root.now }
 {
     if root.as_bytes().ends_with(b"/") {
@@ -29,95 +34,225 @@ fn slash_behind(root: &str) -> &'static str
     }
 }
 
-/// The line of a fault in a file, and the rows of its text.
+/// Where a file lies: its folder, and its name there.
+#[derive(Clone, Copy)]
+struct Path<'a> {
+    folder: &'a str,
+    file: &'a str,
+}
+
+/// The line of a fault in a file, what it is about, and the rows of its text.
 fn place_text(
     alloc: Global,
-    root: &str,
-    slash: &str,
-    file: &str,
+    path: Path<'_>,
     kind: Kind,
+    about: &str,
     excerpt: &Excerpt,
 ) -> Result<String, AllocError>
-    ensures { IfOk result (λ text. string_bytes text
-        ≡ place_text (shown_name root.now) slash.now (shown_name file.now) kind excerpt.now) }
+    ensures { IfOk result (λ text. string_bytes text ≡ place_text (shown_name path.folder.now)
+        (slash_behind path.folder.now) (shown_name path.file.now) kind about.now excerpt.now) }
 {
-    let root = Shown(root);
-    let file = Shown(file);
+    let slash = slash_behind(path.folder);
+    let root = Shown(path.folder);
+    let file = Shown(path.file);
     let line = excerpt.number;
     let column = excerpt.column;
-    format!(in alloc; "{root}{slash}{file}:{line}:{column}: {kind}\n{excerpt}\n")
+    format!(in alloc; "{root}{slash}{file}:{line}:{column}: {kind}\n{about}{excerpt}\n")
 }
 
-/// The line of a fault of the whole list.
-fn list_text(alloc: Global, root: &str, kind: Kind) -> Result<String, AllocError>
-    ensures { IfOk result (λ text. string_bytes text ≡ list_text (shown_name root.now) kind) }
+/// A fault in a file as compilers write it.
+fn gcc_text(
+    alloc: Global,
+    path: Path<'_>,
+    line: u32,
+    column: u32,
+    message: &str,
+    kind: Kind,
+) -> Result<String, AllocError>
+    ensures { IfOk result (λ text. string_bytes text ≡ gcc_text (shown_name path.folder.now)
+        (slash_behind path.folder.now) (shown_name path.file.now) line column message.now kind) }
 {
-    let root = Shown(root);
-    format!(in alloc; "{root}: {kind}\n")
+    let slash = slash_behind(path.folder);
+    let root = Shown(path.folder);
+    let file = Shown(path.file);
+    format!(in alloc; "{root}{slash}{file}:{line}:{column}: error: {message} [{kind}]\n")
 }
 
-/// The line of a fault in a file, and the rows of its text around the place.
+/// A fault in a file as a workflow takes it.
+fn github_text(
+    alloc: Global,
+    path: Path<'_>,
+    line: u32,
+    column: u32,
+    message: &str,
+    kind: Kind,
+) -> Result<String, AllocError>
+    ensures { IfOk result (λ text. string_bytes text ≡ github_text path.folder.now
+        (slash_behind path.folder.now) path.file.now line column message.now kind) }
+{
+    let slash = slash_behind(path.folder);
+    let root = CommandProperty(path.folder);
+    let file = CommandProperty(path.file);
+    let message = CommandMessage(message);
+    format!(in alloc;
+        "::error file={root}{slash}{file},line={line},col={column},title={kind}::{message}\n"
+    )
+}
+
+/// A fault in a file as a JSON object.
+fn json_row(
+    alloc: Global,
+    path: Path<'_>,
+    line: u32,
+    column: u32,
+    message: &str,
+    fault: &Fault,
+    more: &str,
+) -> Result<String, AllocError>
+    ensures { IfOk result (λ text. string_bytes text ≡ json_row path.folder.now
+        (slash_behind path.folder.now) path.file.now line column message.now fault.now more.now) }
+{
+    let slash = slash_behind(path.folder);
+    let root = JsonText(path.folder);
+    let file = JsonText(path.file);
+    let below = JsonText(path.file);
+    let message = JsonText(message);
+    let Fault {
+        pass,
+        place,
+        kind,
+        ..
+    } = fault;
+    let number = kind.number();
+    format!(in alloc;
+        "{{\"file\":\"{file}\",\"path\":\"{root}{slash}{below}\",\"line\":{line},\"column\":{column},\"place\":{place},\"pass\":{pass},\"kind\":\"{kind}\",\"number\":{number},\"message\":\"{message}\"{more}}}\n"
+    )
+}
+
+/// What is said of a fault in a file: its line and, for people, the rows of its text around the place.
 fn place_of(
     alloc: Global,
+    form: Form,
     places: &Places,
     source: &Source,
     fault: &Fault,
+    message: &Message,
     limits: &Limits,
 ) -> Result<String, AllocError>
     requires within { fault.now.place.offset ≤ length (text_of source.now) }
     requires short { fault.now.place.offset < 2 ^ 32 - 1 }
-    ensures { IfOk result (λ said. IsPlaceOf limits.now places.now fault.now source.now
+    ensures { IfOk result (λ said. IsPlaceOf form limits.now places.now fault.now source.now
         (string_bytes said)) }
 {
-    let excerpt = excerpt_at(alloc, source.text, fault.place, limits)?;
     let file = fault.file.as_str();
-    let folder = places.folder_of(file);
-    let slash = slash_behind(folder);
-    place_text(alloc, folder, slash, file, fault.kind, &excerpt)
-}
-
-/// The line of a fault, and the rows of its text where it stands in a file.
-fn head_of(
-    alloc: Global,
-    places: &Places,
-    sources: &[Source],
-    fault: &Fault,
-    limits: &Limits,
-) -> Result<String, AllocError>
-    requires { LiesWithin sources.now fault.now }
-    ensures { IfOk result (λ said. IsHeadOf limits.now places.now fault.now
-        (source_named sources.now (string_bytes fault.now.file)) (string_bytes said)) }
-{
-    match source_named(sources, fault.file.as_str()) {
-        Some(source) => place_of(alloc, places, source, fault, limits),
-        None => list_text(alloc, places.root, fault.kind),
+    let path = Path {
+        folder: places.folder_of(file),
+        file,
+    };
+    let kind = fault.kind;
+    let (line, column) = line_column(source.text, fault.place);
+    let said = message.line.as_str();
+    match form {
+        Form::Text => {
+            let excerpt = excerpt_at(alloc, source.text, fault.place, limits)?;
+            place_text(alloc, path, kind, message.row.as_str(), &excerpt)
+        }
+        Form::Gcc => gcc_text(alloc, path, line, column, said, kind),
+        Form::Github => github_text(alloc, path, line, column, said, kind),
+        Form::Json => json_row(
+            alloc,
+            path,
+            line,
+            column,
+            said,
+            fault,
+            message.members.as_str(),
+        ),
     }
 }
 
-/// Puts what a kind of fault means, and its cure.
-fn put_cure(report: &mut String, kind: Kind) -> Result<(), AllocError>
-    ensures { OnOk result (AddsSome (string_bytes report.old) (string_bytes report.new)) }
+/// What is said of a fault of the whole list.
+fn list_text(
+    alloc: Global,
+    form: Form,
+    root: &str,
+    fault: &Fault,
+    message: &Message,
+) -> Result<String, AllocError>
+    ensures { IfOk result (λ text. IsListText form root.now fault.now (string_bytes text)) }
 {
-    let topic = Topic::Kind(kind);
-    let meaning = topic.meaning();
-    let cure = topic.cure();
-    writeln!(report, "  {meaning}\n  {cure}")
+    let kind = fault.kind;
+    let said = message.line.as_str();
+    let shown = Shown(root);
+    match form {
+        Form::Text => format!(in alloc; "{shown}: {kind}\n{}", message.row),
+        Form::Gcc => format!(in alloc; "{shown}: error: {said} [{kind}]\n"),
+        Form::Github => format!(in alloc; "::error title={kind}::{}\n", CommandMessage(said)),
+        Form::Json => {
+            let path = JsonText(root);
+            let pass = fault.pass;
+            let number = kind.number();
+            let text = JsonText(said);
+            format!(in alloc;
+                "{{\"file\":null,\"path\":\"{path}\",\"pass\":{pass},\"kind\":\"{kind}\",\"number\":{number},\"message\":\"{text}\"}}\n"
+            )
+        }
+    }
 }
 
-/// Puts what is said of a fault: its line, the rows of its text where it stands in a file, what it means, and its cure.
-pub(crate) fn put_block(
+/// What is said of a fault, whose message this is.
+fn head_of(
     alloc: Global,
-    report: &mut String,
+    form: Form,
     places: &Places,
     sources: &[Source],
     fault: &Fault,
+    message: &Message,
+    limits: &Limits,
+) -> Result<String, AllocError>
+    requires { LiesWithin sources.now fault.now }
+    ensures { IfOk result (λ said. IsHeadOf form limits.now places.now fault.now
+        (source_named sources.now (string_bytes fault.now.file)) (string_bytes said)) }
+{
+    match source_named(sources, fault.file.as_str()) {
+        Some(source) => place_of(alloc, form, places, source, fault, message, limits),
+        None => list_text(alloc, form, places.root, fault, message),
+    }
+}
+
+/// Puts what a kind of fault means, and its cure, for people.
+fn put_cure(report: &mut String, form: Form, kind: Kind, is_first: bool) -> Result<(), AllocError>
+    ensures { OnOk result (AddsMore form (string_bytes report.old) (string_bytes report.new)) }
+{
+    match form {
+        Form::Text if is_first => {
+            let topic = Topic::Kind(kind);
+            let meaning = topic.meaning();
+            let cure = topic.cure();
+            writeln!(report, "  {meaning}\n  {cure}")
+        }
+        _ => Ok(()),
+    }
+}
+
+/// Puts what is said of a fault, whose message this is. For people it is followed by what its kind means, and its cure, where it is
+/// the first of its kind.
+pub(crate) fn put_block(
+    alloc: Global,
+    report: &mut String,
+    form: Form,
+    places: &Places,
+    sources: &[Source],
+    fault: &Fault,
+    message: &Message,
+    is_first: bool,
     limits: &Limits,
 ) -> Result<(), AllocError>
     requires { LiesWithin sources.now fault.now }
-    ensures { OnOk result (AddsBlock limits.now places.now sources.now fault.now (string_bytes report.old)
+    ensures { OnOk result (AddsBlock form limits.now places.now sources.now fault.now (string_bytes report.old)
         (string_bytes report.new)) }
 {
-    let head = head_of(alloc, places, sources, fault, limits)?;
+    let head = head_of(alloc, form, places, sources, fault, message, limits)?;
     report.push_str(head.as_str())?;
-    put_cure(report, fault.kind)
+    put_cure(report, form, fault.kind, is_first)
 }

@@ -3,10 +3,13 @@
 
 mod blocks;
 mod check;
+mod escaped;
+mod message;
 mod report;
 mod told;
 mod written;
 
 pub use check::{check_texts, run_check};
+pub use fault_report::Form;
 pub use report::report_of;
 pub use told::told_faults;

@@ -1,16 +1,21 @@
 //! What is said of all faults.
 
-ghost use Rattle.std.specs.Prelude.{◌≡◌, IfOk, string_bytes};
-ghost use Rattle.schema_check.specs.Reports.{IsReport, empty_text, faulty_text, plural, sound_text, summary_of};
-ghost use Rattle.schema_check.specs.Told.{ArePlaced};
+ghost use Rattle.std.specs.Prelude.{◌≡◌, ◌++◌, ◌-◌, ◌^◌, IfOk, OnOk, length, string_bytes};
+ghost use Rattle.schema_check.specs.Added.{AddsBlock};
+ghost use Rattle.schema_check.specs.Reports.{IsReport, empty_text, end_of, faulty_text, plural, sound_text, summary_of, unseen_behind, unseen_text};
+ghost use Rattle.schema_check.specs.Told.{ArePlaced, LiesWithin};
 ghost use Rattle.schema_failure.specs.Lines.{shown_name};
 
 use crate::blocks::put_block;
+use crate::message::message_of;
+use fault_report::Form;
+use fault_words::Words;
 use proto_base::{Fault, Limits};
 use proto_compile::Source;
 use schema_failure::Shown;
 use schema_sources::Places;
 use std::alloc::{AllocError, Global};
+use std::collections::BTreeSet;
 
 /// What ends the word for so many things.
 fn plural(count: usize) -> &'static str
@@ -59,24 +64,104 @@ fn summary_of(alloc: Global, root: &str, faults: usize, files: usize) -> Result<
     }
 }
 
-/// What is said of the faults of sources that lie so: of each one its line, the rows of the text around its place, what it means
-/// and its cure; and how many there are.
+/// What the passes behind this one look at, which were not looked at.
+fn unseen_text(pass: u8) -> &'static str
+    ensures { result.now ≡ unseen_text pass }
+{
+    match pass {
+        1 => "imports, names and types are looked at when these are mended\n",
+        2 => "names and types are looked at when these are mended\n",
+        3 => "types are looked at when these are mended\n",
+        _ => "",
+    }
+}
+
+/// The same of the pass of the first fault, if there is one.
+fn unseen_behind(faults: &[Fault]) -> &'static str
+    ensures { result.now ≡ unseen_behind faults.now }
+{
+    match faults {
+        [first, ..] => unseen_text(first.pass),
+        [] => "",
+    }
+}
+
+/// The last lines of a report, which only people read.
+fn end_of(
+    alloc: Global,
+    form: Form,
+    root: &str,
+    faults: &[Fault],
+    files: usize,
+) -> Result<String, AllocError>
+    ensures { IfOk result (λ end. string_bytes end ≡ end_of form root.now faults.now files) }
+{
+    match form {
+        Form::Text => {
+            let mut end = summary_of(alloc, root, faults.len(), files)?;
+            end.push_str(unseen_behind(faults))?;
+            Ok(end)
+        }
+        Form::Gcc | Form::Github | Form::Json => Ok(String::new(alloc)),
+    }
+}
+
+/// Puts what is said of a fault, of which these words are known, if any are.
+fn put_said(
+    alloc: Global,
+    report: &mut String,
+    form: Form,
+    places: &Places,
+    sources: &[Source],
+    fault: &Fault,
+    words: &Option<Words<'_>>,
+    is_first: bool,
+    limits: &Limits,
+) -> Result<(), AllocError>
+    requires { LiesWithin sources.now fault.now }
+    ensures { OnOk result (AddsBlock form limits.now places.now sources.now fault.now (string_bytes report.old)
+        (string_bytes report.new)) }
+{
+    let message = message_of(alloc, places, sources, fault, words)?;
+    put_block(
+        alloc, report, form, places, sources, fault, &message, is_first, limits,
+    )
+}
+
+/// What is said of the faults of sources that lie so, of each of which there are words in a list of as many, where anything is known: in
+/// each form its line; for people also the row of its text with carets and, where it is the first of its kind, what this means and
+/// its cure; and at last how many there are, and what was not looked at.
 pub fn report_of(
     alloc: Global,
+    form: Form,
     places: &Places,
     sources: &[Source],
     faults: &[Fault],
+    words: &[Option<Words<'_>>],
     limits: &Limits,
 ) -> Result<String, AllocError>
-    requires { ArePlaced sources.now faults.now }
-    ensures { IfOk result (λ report. IsReport limits.now places.now sources.now faults.now
+    requires placed { ArePlaced sources.now faults.now }
+    requires words { length words.now ≡ length faults.now }
+    ensures { IfOk result (λ report. IsReport form limits.now places.now sources.now faults.now
         (string_bytes report)) }
 {
     let mut report = String::new(alloc);
-    for fault in faults {
-        put_block(alloc, &mut report, places, sources, fault, limits)?;
+    let mut told = BTreeSet::new(alloc);
+    for (at, fault) in faults.iter().enumerate() {
+        let is_first = told.insert(fault.kind)?;
+        put_said(
+            alloc,
+            &mut report,
+            form,
+            places,
+            sources,
+            fault,
+            &words[at],
+            is_first,
+            limits,
+        )?;
     }
-    let summary = summary_of(alloc, places.root, faults.len(), sources.len())?;
-    report.push_str(summary.as_str())?;
+    let end = end_of(alloc, form, places.root, faults, sources.len())?;
+    report.push_str(end.as_str())?;
     Ok(report)
 }

@@ -28,8 +28,9 @@ where
     }
 }
 
-/// The faults of sources that can be told at once: where the first of all is one of a source by itself, the first of each source
-/// that has one, in the order of the sources; else the first of all, alone; none only where the sources are compiled.
+/// The faults of sources that can be told at once: where the first of all is one of a source by itself, all that sources have by
+/// themselves, in the order of the sources, and in one by place and then by the kind's number; else the first of all, alone; none
+/// only where the sources are compiled.
 pub fn told_faults<R>(
     rt: &R,
     sources: &[Source],

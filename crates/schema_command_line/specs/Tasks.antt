@@ -6,6 +6,8 @@ use Rattle.clap.specs.Simple.{subcommand_rows_of}
 use Rattle.clap.specs.Walk.{rows_of}
 use Rattle.clap.specs.declared.parser.matches.ArgMatches.{ArgMatches}
 use Rattle.clap.specs.declared.parser.matches.Found.{Found}
+use Rattle.fault_report.specs.declared.form.Form.{Form}
+use Rattle.fault_report.specs.declared.form.Form.TheVariants as form
 use Rattle.first_reach.specs.declared.mode.Mode.{Mode}
 use Rattle.first_reach.specs.declared.mode.Mode.TheVariants as mode
 use Rattle.share_work.specs.declared.plan.Plan.{Plan}
@@ -71,6 +73,12 @@ abbrev pub file_of : Option (List ℕ) → Option (List ℕ)
 file_of None = None
 file_of (Some path) = if bytes_eq path (codes "-") then None else Some path
 
+-- the form of --format, for people where there is none
+abbrev pub form_named : Option (List ℕ) → Form
+form_named None = form.Text
+form_named (Some name) = if bytes_eq name (codes "gcc") then form.Gcc else (if bytes_eq name (codes "github")
+    then form.Github else (if bytes_eq name (codes "json") then form.Json else form.Text))
+
 -- the number of an argument, which has so many bits, and without the argument none
 pub record IsCount (found : Found) (name : List ℕ) (bits : ℕ) (count : Option ℕ) : Type 0 where
   pub counted : (n : ℕ) → n < 2 ^ bits → HasNumber found name n → count ≡ Some n
@@ -89,8 +97,9 @@ IsTaskNamed name found (task.Compile selection plan file dependencies) =
     (name ≡ codes "compile") × IsSelection found selection × IsPlan found plan
     × (option_map (λ s. s.now) file ≡ file_of (first_value found (codes "output")))
     × (option_map (λ s. s.now) dependencies ≡ first_value found (codes "dependency_out"))
-IsTaskNamed name found (task.Check selection plan) =
+IsTaskNamed name found (task.Check selection plan shape) =
     (name ≡ codes "check") × IsSelection found selection × IsPlan found plan
+    × (shape ≡ form_named (first_value found (codes "format")))
 IsTaskNamed name found (task.Serve from service plan m) =
     (name ≡ codes "serve") × IsOrigin found from × IsService found service × IsPlan found plan × IsMode found m
 IsTaskNamed name found (task.Answer from plan m) =

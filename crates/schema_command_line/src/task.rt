@@ -3,11 +3,12 @@
 ghost use Rattle.std.specs.Prelude.{◌≡◌, IfOk, IfSome, codes, map, option_map};
 ghost use Rattle.clap.specs.Matches.{first_value, found_of};
 ghost use Rattle.clap.specs.declared.parser.matches.ArgMatches.{ArgMatches};
-ghost use Rattle.schema_command_line.specs.Tasks.{AreCustomOptions, IsAsked, IsCount, IsMode, IsOrigin, IsPlan, IsSelection, IsService, IsTaskNamed, IsVerbosity, file_of, value_of, values_of};
+ghost use Rattle.schema_command_line.specs.Tasks.{AreCustomOptions, IsAsked, IsCount, IsMode, IsOrigin, IsPlan, IsSelection, IsService, IsTaskNamed, IsVerbosity, file_of, form_named, value_of, values_of};
 
 use crate::words::whole_command;
 use clap::error::ErrorKind;
 use clap::{ArgMatches, Error};
+use fault_report::Form;
 use first_reach::Mode;
 use schema_explanation::Topic;
 use share_work::Plan;
@@ -66,6 +67,7 @@ pub enum Task<'a> {
     Check {
         selection: Selection<'a>,
         plan: Plan,
+        form: Form,
     },
     /// Serve reflection by HTTP.
     Serve {
@@ -222,6 +224,18 @@ fn file_in<'a>(matches: &ArgMatches<'a>) -> Option<&'a str>
     }
 }
 
+/// The form of `check`. The parser of the words lets no other names through.
+fn form_of(matches: &ArgMatches<'_>) -> Form
+    ensures { result ≡ form_named (first_value (found_of matches.now) (codes "format")) }
+{
+    match matches.get_str("format") {
+        Some("gcc") => Form::Gcc,
+        Some("github") => Form::Github,
+        Some("json") => Form::Json,
+        _ => Form::Text,
+    }
+}
+
 /// How many connections are asked for, if they are counted.
 fn connections_in(matches: &ArgMatches<'_>) -> Option<u64>
     ensures { IsCount (found_of matches.now) (codes "connections") 64 result }
@@ -273,6 +287,7 @@ fn task_named<'a>(
         "check" => Task::Check {
             selection: selection_of(alloc, matches)?,
             plan: plan_of(matches),
+            form: form_of(matches),
         },
         "serve" => Task::Serve {
             origin: origin_of(alloc, matches)?,

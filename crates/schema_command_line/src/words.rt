@@ -1,5 +1,6 @@
 //! The words that the command line takes, as `clap` is told them.
 
+use clap::builder::ValueParser;
 use clap::{Arg, ArgAction, Command, value_parser};
 use std::alloc::{AllocError, Global};
 
@@ -176,10 +177,27 @@ fn compile_command<'a>(alloc: Global) -> Result<Command<'a>, AllocError> {
     with_argument(command, dependency_argument(alloc)?)
 }
 
+/// The forms of `check`, by their names.
+static FORMS: [&str; 4] = ["text", "gcc", "github", "json"];
+
+fn format_argument<'a>(alloc: Global) -> Arg<'a> {
+    Arg::new(alloc, "format")
+        .long("format")
+        .value_name("FORM")
+        .default_value("text")
+        .value_parser(ValueParser::Names(&FORMS))
+        .help(
+            "how faults are written: for people, as compilers do, for a workflow of GitHub, or as JSON, one a line",
+        )
+}
+
 fn check_command<'a>(alloc: Global) -> Result<Command<'a>, AllocError> {
     let about =
         "Tells the faults of the proto3 sources below a folder, each with its line, its meaning and its cure";
-    source_command(alloc, "check", about)
+    with_argument(
+        source_command(alloc, "check", about),
+        format_argument(alloc),
+    )
 }
 
 fn repeat_argument<'a>(alloc: Global) -> Arg<'a> {

@@ -63,8 +63,8 @@ IsAnswerFrom (origin.Set path) = IsSetAnswerRun path.now
 abbrev pub IsPerformed : Task → Reads → Reads → Writes → Writes → Result Verdict Failure → Type 0
 IsPerformed (task.Compile selection plan file dependencies) reads reads' writes writes' =
     EndsSound (λ done. IsCompileRun (unknown selection.custom_options) file writes writes' done)
-IsPerformed (task.Check selection plan) reads reads' writes writes' =
-    λ done. IsFolderCheck (unknown selection.custom_options) selection.root.now writes writes' done
+IsPerformed (task.Check selection plan form) reads reads' writes writes' =
+    λ done. IsFolderCheck (unknown selection.custom_options) form selection.root.now writes writes' done
 IsPerformed (task.Serve from service plan mode) reads reads' writes writes' =
     EndsSound (λ done. (asked : ServeTask) × IsServeTask service plan mode asked × (run : Result EndedService Failure)
     × IsServeFrom from asked writes writes' run × (done ≡ end_of_run run))

@@ -165,9 +165,13 @@ where
             };
             sound(run_compile(rt, &folder, selection.root, *plan, files, output))
         }
-        Task::Check { selection, plan } => {
+        Task::Check {
+            selection,
+            plan,
+            form,
+        } => {
             let folder = folder_of(rt, selection);
-            run_check(rt, &folder, selection.root, *plan, output)
+            run_check(rt, &folder, *form, selection.root, *plan, output)
         }
         Task::Serve {
             origin,

@@ -3,7 +3,7 @@ use Rattle.std.specs.List.{AllZip, concat}
 use Rattle.schema_check.specs.Reports.{IsBlock}
 use Rattle.schema_check.proofs.report.report_of.Given as goal
 
-abbrev pub invariant-loop-fault : goal.invariant-loop-fault
-invariant-loop-fault l = (blocks : List (List ℕ)) × AllZip (IsBlock l.limits l.places l.sources)
-    (take l.fault-index l.faults) blocks
+abbrev pub invariant-loop-at : goal.invariant-loop-at
+invariant-loop-at l = (blocks : List (List ℕ)) × AllZip (IsBlock l.form l.limits l.places l.sources)
+    (take l.at l.faults) blocks
     × (string_bytes l.report ≡ concat blocks)

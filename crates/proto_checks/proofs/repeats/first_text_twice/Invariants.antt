@@ -1,7 +1,0 @@
-use Rattle.proto_checks.proofs.Common.{map, spot, Marked, Passed, text_cmp}
-use Rattle.proto_checks.proofs.repeats.first_text_twice.Given as goal
-
-abbrev pub invariant-loop-item : goal.invariant-loop-item
-invariant-loop-item g l =
-    Passed text_cmp (λ k. k.now) (λ (a : Marked). a.text) (λ (a : Marked). spot a.place l.fn.kind)
-    (map g.T.HasText.mark l.items) l.seen l.item-index l.first
