@@ -22,7 +22,8 @@ use Rattle.proto_compile.proofs.Placing.{NoneBefore}
 use Rattle.proto_compile.proofs.Sorting.{moved, name_of_item}
 use Rattle.proto_links.proofs.NameRows.{rise_far}
 use Rattle.proto_file.specs.Local.{IsOwnFault}
-use Rattle.file_faults.specs.OwnFaults.{AreAllFaults, AreFileFaults, AreOwnFaults, HasFault, none, more}
+use Rattle.file_faults.specs.OwnFaults.{AreFileFaults, AreOwnFaults, HasFault, none, more}
+use Rattle.file_faults.specs.PassFaults.{AreAllFaults}
 use Rattle.share_work.proofs.Sums.{behind, front, front_or_behind, in_map, none_in, of_map, pairs_cons, pairs_first}
 
 -- ---- which faults are told
@@ -98,10 +99,10 @@ module _ (limits : Limits) (sources files : List Source) (xs : List SourceFault)
 
 -- ---- one list
 
-module _ {X : Type 0} (R : X → X → Type 0) (apart : (x y : X) → R x y → R y x → ⊥) where
-  pairs_rest : (x : X) (xs : List X) → AllPairs R (x ∷ xs) → AllPairs R xs
-  pairs_rest x xs up i j d before below = up (suc i) (suc j) d (omega (arith, before)) (omega (arith, below))
+pub pairs_behind : {X : Type 0} (R : X → X → Type 0) (x : X) (xs : List X) → AllPairs R (x ∷ xs) → AllPairs R xs
+pairs_behind R x xs up i j d before below = up (suc i) (suc j) d (omega (arith, before)) (omega (arith, below))
 
+module _ {X : Type 0} (R : X → X → Type 0) (apart : (x y : X) → R x y → R y x → ⊥) where
   -- what stands behind an element stands behind it in another list
   still_behind : (x : X) (xs ys : List X) → AllPairs R (x ∷ xs)
       → ((y : X) → Contains (x ∷ xs) y → Contains (x ∷ ys) y) → (y : X) → Contains xs y → Contains ys y
@@ -123,7 +124,7 @@ module _ {X : Type 0} (R : X → X → Type 0) (apart : (x y : X) → R x y → 
           | inr also ↦ absurd (apart x y (pairs_first R x xs up y also) (pairs_first R y ys rise x later))
         ]
       ] in
-      let rest = same_lists xs ys (pairs_rest x xs up) (pairs_rest y ys rise) (λ z. (
+      let rest = same_lists xs ys (pairs_behind R x xs up) (pairs_behind R y ys rise) (λ z. (
         still_behind x xs ys up (λ w h. rw first ((same w).0 h)) z,
         still_behind y ys xs rise (λ w h. rw (sym first) ((same w).1 h)) z,
       )) in
@@ -158,7 +159,7 @@ in_front file (f ∷ own) later order up before = pairs_cons IsEarlier (fault 1 
           rw (sym is) (earlier_in file f g (pairs_first file_faults.IsEarlier f own order g there)))
       | inr there ↦ before f y there
     ])
-    (in_front file own later (pairs_rest file_faults.IsEarlier apart f own order) up before)
+    (in_front file own later (pairs_behind file_faults.IsEarlier f own order) up before)
 
 rises_on : (name : List ℕ) (names : List (List ℕ)) → NamesRise (name ∷ names) → NamesRise names
 rises_on name names rises k below = rises (suc k) (omega (arith, below))

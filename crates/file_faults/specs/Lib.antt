@@ -1,2 +1,4 @@
 pub mod Found
+pub mod FaultSpots
 pub mod OwnFaults
+pub mod PassFaults

@@ -3,7 +3,7 @@ use Rattle.std.specs.Prelude.{◌≡◌, ℕ, ◌<◌, ◌↔◌, List, [], ◌�
 use Rattle.proto_base.specs.FileFaults.{IsEarlier}
 use Rattle.proto_base.specs.declared.file_fault.FileFault.{FileFault}
 use Rattle.proto_base.specs.declared.limits.Limits.{Limits}
-use Rattle.proto_compile.specs.FaultSet.{IsFault, SourceFault, fault}
+use Rattle.proto_compile.specs.FaultSet.{SourceFault, fault}
 use Rattle.proto_compile.specs.Sources.{name_at, name_of, text_of}
 use Rattle.proto_compile.specs.declared.source.Source.{Source}
 use Rattle.proto_file.specs.Local.{IsOwnFault}
@@ -24,10 +24,6 @@ pub data AreFileFaults (limits : Limits) : List Source → List SourceFault → 
 abbrev pub HasFault : Limits → Source → SourceFault → Type 0
 HasFault limits s x =
     (f : FileFault) × IsOwnFault limits (name_of s) (text_of s) f × (x ≡ fault 1 (name_of s) f)
-
--- exactly all faults of sources
-abbrev pub AreAllFaults : Limits → List Source → List SourceFault → Type 0
-AreAllFaults limits sources faults = (x : SourceFault) → Contains faults x ↔ IsFault limits sources x
 
 -- no two sources have one name
 abbrev pub NamesDiffer : List Source → Type 0

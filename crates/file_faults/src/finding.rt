@@ -1,18 +1,19 @@
 //! The faults of sources, each by itself, by workers.
 
-ghost use Rattle.std.specs.Prelude.{◌≡◌, ◌≢◌, ◌≤◌, [], ◌∷◌, ◌++◌, List, AllPairs, IfOk, OnOk, length, map};
-ghost use Rattle.file_faults.specs.OwnFaults.{AreAllFaults, AreFileFaults};
-ghost use Rattle.file_faults.specs.Found.{faults_in, named_by};
+ghost use Rattle.std.specs.Prelude.{◌≡◌, ◌≢◌, ◌≤◌, [], ◌∷◌, List, AllPairs, IfOk, length, map};
+ghost use Rattle.file_faults.specs.OwnFaults.{AreFileFaults};
+ghost use Rattle.file_faults.specs.PassFaults.{AreAllFaults};
 ghost use Rattle.proto_base.specs.Limits.{limit_of};
 ghost use Rattle.proto_base.specs.declared.fault.Fault.{Fault};
 ghost use Rattle.proto_base.specs.declared.limits.Limit.TheVariants as limit;
-ghost use Rattle.proto_compile.specs.FaultSet.{IsEarlier, IsLeastFault, fault as source_fault, told_by};
+ghost use Rattle.proto_compile.specs.FaultSet.{IsEarlier, IsLeastFault, told_by};
 ghost use Rattle.proto_base.specs.NameOrder.{NamesRise};
 ghost use Rattle.proto_compile.specs.Sources.{AreByName, name_of};
 ghost use Rattle.proto_compile.specs.declared.source.Source.{Source};
 
+use crate::naming::all_named;
 use proto_base::{Fault, FileFault, Limits};
-use proto_compile::{LOCAL_PASS, Source};
+use proto_compile::Source;
 use proto_file::own_faults;
 use share_work::phases::DESCRIBING;
 use share_work::{Gate, ItemWork, Plan, each_in_shares};
@@ -43,51 +44,6 @@ impl<'s> ItemWork<Source<'s>> for Finding {
     ) -> Result<Vec<FileFault>, AllocError> {
         own_faults(alloc, source.name, source.text, &self.limits)
     }
-}
-
-/// A fault with the name of its file.
-fn named(alloc: Global, name: &str, found: FileFault) -> Result<Fault, AllocError>
-    ensures { IfOk result (λ fault. told_by fault ≡ source_fault 1 name.now found) }
-{
-    Ok(Fault {
-        pass: LOCAL_PASS,
-        file: String::from_str(alloc, name)?,
-        step: found.step,
-        place: found.spot.place,
-        kind: found.spot.kind,
-    })
-}
-
-/// Puts what was found in a source behind other faults, with the name of its file.
-fn put_found(
-    alloc: Global,
-    faults: &mut Vec<Fault>,
-    source: &Source,
-    found: &[FileFault],
-) -> Result<(), AllocError>
-    ensures { OnOk result (map told_by faults.new.items
-        ≡ map told_by faults.old.items ++ named_by source.now found.now) }
-{
-    for fault in found {
-        faults.push(named(alloc, source.name, *fault)?)?;
-    }
-    Ok(())
-}
-
-/// The faults that were found in sources, with the names of their files.
-fn all_named(
-    alloc: Global,
-    files: &[Source],
-    found: &[Vec<FileFault>],
-) -> Result<Vec<Fault>, AllocError>
-    requires { length found.now ≡ length files.now }
-    ensures { IfOk result (λ faults. map told_by faults.items ≡ faults_in files.now found.now) }
-{
-    let mut faults = Vec::new(alloc);
-    for (at, source) in files.iter().enumerate() {
-        put_found(alloc, &mut faults, source, found[at].as_slice())?;
-    }
-    Ok(faults)
 }
 
 /// All faults that sources have by themselves (of each the first of its tokens, else that of the grammar, else each rule that one

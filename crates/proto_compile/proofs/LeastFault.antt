@@ -10,7 +10,7 @@ use Rattle.proto_base.specs.declared.file_fault.FileFault.{FileFault}
 use Rattle.proto_base.specs.declared.kind.Kind.TheVariants as kind
 use Rattle.proto_base.specs.declared.limits.Limit.TheVariants as limit
 use Rattle.proto_file.proofs.OneLocal.{no_own}
-use Rattle.proto_file.specs.Local.{IsLocalFault}
+use Rattle.proto_file.specs.Local.{IsLocalFault, IsOwnFault}
 use Rattle.proto_links.specs.Imports as imports
 use Rattle.proto_links.specs.Bad as bad_imports
 use Rattle.proto_names.specs.Repeated.{IsRepeated}
@@ -48,7 +48,7 @@ first_name : (f g : List ℕ) (o p : Ordering) → ordering_then (slice_cmp nat_
     → ordering_then (slice_cmp nat_cmp g f) p ≢ Greater → (f ≡ g) × (o ≢ Greater) × (p ≢ Greater)
 first_name f g o p h i = grind (arith, nat_list_cmp_total, exact_bytes)
 
-one_fault : (x y : SourceFault) → IsNoLater x y → IsNoLater y x → x ≡ y
+pub one_fault : (x y : SourceFault) → IsNoLater x y → IsNoLater y x → x ≡ y
 one_fault x y h i =
     let pass = first_number x.pass y.pass _ _ h i in
     let file = first_name x.file y.file _ _ pass.1 pass.2 in
@@ -142,7 +142,7 @@ module _ (limits : Limits) (sources : List Source) where
       names_differ (map name_of files) order.rises k m up inside (one ∙ sym two)
   none_of_list files few order y breaks less = omega (arith, less)
 
-  none_of_files : {files : List Source} {descs : List FileDesc} → Describe limits sources files descs
+  pub none_of_files : {files : List Source} {descs : List FileDesc} → Describe limits sources files descs
       → NoneBefore limits sources 2
   none_of_files d _ (file_fault s f inside wrong) less =
       let (b, below, at) = Contains-permutation sources _ s d.by_name.all inside in
@@ -150,13 +150,13 @@ module _ (limits : Limits) (sources : List Source) where
       no_own limits (name_of s) (text_of s) desc f is wrong
   none_of_files d y breaks less = none_of_list _ d.few d.by_name y breaks (omega (arith, less))
 
-  none_of_imports : {files : List Source} {descs : List FileDesc} → Describe limits sources files descs
+  pub none_of_imports : {files : List Source} {descs : List FileDesc} → Describe limits sources files descs
       → imports.NoneBad descs → NoneBefore limits sources 3
   none_of_imports d none _ (bad_import others a place what described bad) less =
       none a place what (rw (one_described described (as_described d)).1 at bad)
   none_of_imports d none y breaks less = none_of_files d y breaks (omega (arith, less))
 
-  none_of_names : {files : List Source} {descs : List FileDesc} {links : Linked} {index : Index}
+  pub none_of_names : {files : List Source} {descs : List FileDesc} {links : Linked} {index : Index}
       → IsAnalysed limits sources files descs links index → NoneBefore limits sources 4
   none_of_names is _ (many_names others described over) less =
       let more = rw (one_described described (as_described is.described)).1 at over in
@@ -166,11 +166,11 @@ module _ (limits : Limits) (sources : List Source) where
   none_of_names is y breaks less = none_of_imports is.described is.linked.whole y breaks (omega (arith, less))
 
   -- a pass finds its faults in files
-  abbrev AreOfFiles : ℕ → List FileDesc → (ℕ → FileDesc → Spot → Type 0) → Type 0
+  abbrev pub AreOfFiles : ℕ → List FileDesc → (ℕ → FileDesc → Spot → Type 0) → Type 0
   AreOfFiles pass descs S = (y : SourceFault) → Breaks limits sources y → y.pass ≡ pass → (b : ℕ) × (d : FileDesc)
       × (z : Spot) × StandsAt descs b d × S b d z × (y ≡ of_file pass (imports.name_at descs b) z.place z.kind)
 
-  of_types : {files : List Source} {descs : List FileDesc} {links : Linked} {index : Index}
+  pub of_types : {files : List Source} {descs : List FileDesc} {links : Linked} {index : Index}
       → IsAnalysed limits sources files descs links index → AreOfFiles 4 descs (TypesBreakAt links index)
   of_types is _ (bad_type others b desc place what also stands breaks) same =
       let one = (one_described also (as_described is.described)).1 in
@@ -303,9 +303,21 @@ module _ (limits : Limits) (sources : List Source) where
       let (s, at, wrong, before) = first_outcome (λ k. IsDescribed limits) files outcomes gives f in
       rw (f.is, name_of_item files f.at s at.0 (sym at.1)) (local_least files f.at s f.found few order at wrong before)
 
+  -- the first file that has a fault has it by itself
+  pub own_found : (files : List Source) (outcomes : List (Result FileDesc FileError))
+      → GivesItems (λ k. IsDescribed limits) 0 files outcomes → (x : SourceFault) → IsFirstFound 1 files outcomes x
+      → (s : Source) × Contains files s
+      × ((f : FileFault) × IsOwnFault limits (name_of s) (text_of s) f × (x ≡ fault 1 (name_of s) f))
+  own_found files outcomes gives x f =
+      let (s, at, wrong, before) = first_outcome (λ k. IsDescribed limits) files outcomes gives f in (
+        s,
+        (f.at, at.0, at.1),
+        (f.found, wrong.among, f.is ∙ ap (λ name. fault 1 name f.found) (name_of_item files f.at s at.0 (sym at.1))),
+      )
+
   -- ---- imports
 
-  descs_rise : {files : List Source} {descs : List FileDesc} → Describe limits sources files descs
+  pub descs_rise : {files : List Source} {descs : List FileDesc} → Describe limits sources files descs
       → NamesRise (map imports.name_of descs)
   descs_rise d = rw (same_names limits _ _ d.each) d.by_name.rises
 

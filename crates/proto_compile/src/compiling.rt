@@ -1,16 +1,20 @@
 //! Compiling a list of sources.
 
-ghost use Rattle.std.specs.Prelude.{◌≡◌, ℕ, List, true, All, IfOk, IfErr, IsErrAnd, MatchResult, OnOk, length, map};
+ghost use Rattle.std.specs.Prelude.{◌≡◌, ℕ, List, true, All, Contains, IfOk, IfErr, IsErrAnd, MatchResult, OnOk, length, map};
+ghost use Rattle.std.specs.List.{AllZip};
 ghost use Rattle.proto_base.specs.NameOrder.{NamesRise};
+ghost use Rattle.proto_base.specs.declared.file_fault.FileFault.{FileFault};
 ghost use Rattle.proto_compile.specs.Analysed.{AreResolved};
 ghost use Rattle.proto_compilation.specs.Compilation.{Compilation, file_bytes, file_name};
 ghost use Rattle.proto_compile.specs.Compiled.{IsCompiled, IsShort, IsWritten};
-ghost use Rattle.proto_compile.specs.FaultSet.{IsFault, IsLeastFault, IsPlaced, SourceFault, TellsOf};
-ghost use Rattle.proto_compile.specs.Sources.{name_of};
+ghost use Rattle.proto_compile.specs.FaultSet.{IsFault, IsLeastFault, IsPlaced, SourceFault, TellsOf, fault};
+ghost use Rattle.proto_compile.specs.Descriptions.{SourceDescribes};
+ghost use Rattle.proto_compile.specs.Sources.{name_of, text_of};
 ghost use Rattle.proto_compilation.specs.Parts.{compilation};
 ghost use Rattle.proto_compile.specs.Steps.{AreWritten, items_of};
 ghost use Rattle.proto_compile.specs.declared.error.CompileError.TheVariants as errors;
 ghost use Rattle.proto_desc.specs.Resolved.{file_resolved};
+ghost use Rattle.proto_file.specs.Local.{IsOwnFault};
 ghost use Rattle.proto_links.specs.Linked.{Linked};
 ghost use Rattle.proto_names.specs.Index.{Index};
 ghost use Rattle.wire_bytes.specs.Descriptor.{file_desc_bytes};
@@ -21,6 +25,7 @@ use crate::error::{CompileError, START, refusal};
 use crate::pass::Pass;
 use crate::pass::lengths::write_all;
 use crate::pass::list::files_by_name;
+use crate::pass::local::describe_all;
 use crate::source::Source;
 use crate::workers::{Leftovers, Workers};
 use proto_base::{Kind, Limits};
@@ -130,6 +135,32 @@ where
         leftovers,
     };
     run_passes(&workers, sources, limits)
+}
+
+/// What sources describe, each by itself, in their order; or the first fault of the first of them that has one by itself.
+pub fn describe_each<'s, R, G>(
+    rt: &R,
+    files: &[Source<'s>],
+    limits: &Limits,
+    plan: Plan,
+    gate: &G,
+) -> Result<Vec<FileDesc<'s>>, CompileError>
+where
+    R: Threads + AllocGlobal + Sync,
+    G: Gate + Sync,
+    ensures described { IfOk result (λ descs. AllZip (SourceDescribes limits.now) files.now
+        descs.items) }
+    ensures own { IfErr result (TellsOf (λ x. (s : Source) × Contains files.now s
+        × ((f : FileFault) × IsOwnFault limits.now (name_of s) (text_of s) f
+        × (x ≡ fault 1 (name_of s) f)))) }
+{
+    let workers = Workers {
+        rt,
+        plan,
+        gate,
+        leftovers: Leftovers::LetGo,
+    };
+    describe_all(&workers, files, limits)
 }
 
 /// The table of files with the bytes of what they describe, of which none has more than the limit.

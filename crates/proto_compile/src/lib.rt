@@ -13,10 +13,11 @@ mod pass;
 mod source;
 mod workers;
 
-pub use compiling::{compile, compile_by};
+pub use compiling::{compile, compile_by, describe_each};
 pub use error::CompileError;
 pub use laws::{compilations_are_sound, compiling_is_unique};
-pub use pass::LOCAL_PASS;
+pub use pass::list::files_by_name;
+pub use pass::{IMPORTS_PASS, LENGTHS_PASS, LOCAL_PASS, NAMES_PASS, TYPES_PASS};
 pub use proto_compilation::Compiled;
 pub use source::Source;
 pub use workers::Leftovers;

@@ -14,6 +14,18 @@ ghost use Rattle.proto_compile.specs.Passes.{number_of};
 /// The number of the pass over each source by itself, as a fault has it.
 pub const LOCAL_PASS: u8 = 1;
 
+/// That of the pass over imports.
+pub const IMPORTS_PASS: u8 = 2;
+
+/// That of the pass over names.
+pub const NAMES_PASS: u8 = 3;
+
+/// That of the pass over types.
+pub const TYPES_PASS: u8 = 4;
+
+/// That of the pass over the lengths of descriptors.
+pub const LENGTHS_PASS: u8 = 5;
+
 /// A pass over sources. A later one is judged only where every file has passed all earlier ones.
 #[derive(Clone, Copy)]
 pub(crate) enum Pass {
@@ -41,10 +53,10 @@ impl Pass {
         match self {
             Pass::List => 0,
             Pass::Local => LOCAL_PASS,
-            Pass::Imports => 2,
-            Pass::Names => 3,
-            Pass::Types => 4,
-            Pass::Lengths => 5,
+            Pass::Imports => IMPORTS_PASS,
+            Pass::Names => NAMES_PASS,
+            Pass::Types => TYPES_PASS,
+            Pass::Lengths => LENGTHS_PASS,
             Pass::Set => 6,
         }
     }

@@ -21,7 +21,7 @@ use schema_serve::{ServeTask, end_of_run, run_serve, run_serve_set};
 use schema_sources::SystemFolder;
 use share_work::Plan;
 use std::alloc::{AllocGlobal, Global};
-use std::io::Write;
+use std::io::{self, Write};
 use std::net::Net;
 use std::random::RandomSource;
 use std::rt::Files;
@@ -82,7 +82,7 @@ fn serve_from<R, O, E>(
     origin: &Origin,
     task: &ServeTask,
     output: &mut O,
-    log: Option<&mut E>,
+    journal: Option<&mut E>,
 ) -> Result<EndedService, Failure>
 where
     R: Wait + Threads + Files + Clock + RandomSource + AllocGlobal + Sync + Clone + Drop + Net,
@@ -96,9 +96,9 @@ where
     match origin {
         Origin::Sources(selection) => {
             let folder = folder_of(rt, selection);
-            run_serve(rt, &folder, task, output, log)
+            run_serve(rt, &folder, task, output, journal)
         }
-        Origin::Set(set) => run_serve_set(rt, set, task, output, log),
+        Origin::Set(set) => run_serve_set(rt, set, task, output, journal),
     }
 }
 
@@ -131,13 +131,13 @@ where
     }
 }
 
-/// Does what a task asks for. A service may have a log.
+/// Does what a task asks for. A service may have a journal.
 fn perform<R, I, O, E>(
     rt: &R,
     task: &Task,
     input: &mut I,
     output: &mut O,
-    log: Option<&mut E>,
+    journal: Option<&mut E>,
 ) -> Result<Verdict, Failure>
 where
     R: Wait + Threads + Files + Clock + RandomSource + AllocGlobal + Sync + Clone + Drop + Net,
@@ -180,7 +180,7 @@ where
             mode,
         } => {
             let asked = serve_task(service, *plan, *mode);
-            sound(end_of_run(serve_from(rt, origin, &asked, output, log)))
+            sound(end_of_run(serve_from(rt, origin, &asked, output, journal)))
         }
         Task::Answer { origin, plan, mode } => {
             sound(answer_from(rt, origin, *plan, *mode, input, output))
@@ -236,34 +236,78 @@ fn tell_usage<O: CountedWrite, E: Write>(
     }
 }
 
-/// What the words of a run call the device that failed.
-fn called<'a>(failure: &Failure, task: &Task<'a>) -> &'a str {
-    match task {
-        Task::Compile {
-            file: Some(file),
-            ..
-        } => file,
-        Task::Serve { service, .. } if is_of_listening(failure) => service.listen,
-        Task::Serve {
-            origin: Origin::Set(set),
-            ..
-        } => set,
-        Task::Answer {
-            origin: Origin::Set(set),
-            ..
-        } => set,
-        _ => "standard output",
+/// What a device said when it failed, where the run does not know it yet: the reader and the writer keep that.
+fn reason_of<I, O>(device: Device, input: &I, output: &O) -> Option<io::Error>
+where
+    I: CountedRead,
+    O: CountedWrite,
+{
+    match device {
+        Device::Input => input.last_error(),
+        Device::Output => output.last_error(),
+        Device::Set | Device::Listen | Device::Accept => None,
     }
 }
 
-fn is_of_listening(failure: &Failure) -> bool {
-    matches!(
-        failure,
-        Failure::Device {
-            device: Device::Listen,
-            ..
-        }
-    )
+/// How a run ended, with what the reader or the writer said that failed.
+fn with_reason<I, O>(
+    done: Result<Verdict, Failure>,
+    input: &I,
+    output: &O,
+) -> Result<Verdict, Failure>
+where
+    I: CountedRead,
+    O: CountedWrite,
+    ensures { status_after result ≡ status_after done }
+{
+    match done {
+        Err(
+            Failure::Device {
+                device,
+                error: None,
+            },
+        ) => Err(Failure::Device {
+            device,
+            error: reason_of(device, input, output),
+        }),
+        _ => done,
+    }
+}
+
+/// What the words of a run call a device.
+fn called<'a>(device: Device, task: &Task<'a>) -> &'a str {
+    match (device, task) {
+        (Device::Input, _) => "standard input",
+        (
+            Device::Output,
+            Task::Compile {
+                file: Some(file),
+                ..
+            },
+        ) => file,
+        (Device::Output, _) => "standard output",
+        (
+            Device::Set,
+            Task::Serve {
+                origin: Origin::Set(set),
+                ..
+            }
+            | Task::Answer {
+                origin: Origin::Set(set),
+                ..
+            },
+        ) => set,
+        (_, Task::Serve { service, .. }) => service.listen,
+        (_, _) => device.name(),
+    }
+}
+
+/// What the words of a run call the device that failed, if one did.
+fn device_called<'a>(failure: &Failure, task: &Task<'a>) -> &'a str {
+    match failure {
+        Failure::Device { device, .. } => called(*device, task),
+        _ => "",
+    }
 }
 
 /// Tells what is known beside the line of a failure, where the run is verbose. `check` is for people, so it tells that always.
@@ -271,13 +315,13 @@ fn tell_detail<E: Write>(done: &Result<Verdict, Failure>, asked: &Asked, faults:
     let is_verbose = matches!(asked.verbosity, Verbosity::Verbose);
     if let Err(failure) = done {
         if is_verbose || matches!(asked.task, Task::Check { .. }) {
-            let _ = write_detail(failure, called(failure, &asked.task), faults);
+            let _ = write_detail(failure, device_called(failure, &asked.task), faults);
         }
     }
 }
 
-/// What the log of a service goes to, where there is one.
-fn log_of<'e, E>(verbosity: Verbosity, faults: &'e mut E) -> Option<&'e mut E> {
+/// What the journal of a service goes to, where there is one.
+fn journal_of<'e, E>(verbosity: Verbosity, faults: &'e mut E) -> Option<&'e mut E> {
     match verbosity {
         Verbosity::Brief => None,
         Verbosity::Verbose => Some(faults),
@@ -307,7 +351,7 @@ where
     match asked {
         Ok(asked) => {
             let log = log_of(asked.verbosity, faults);
-            let done = perform(rt, &asked.task, input, output, log);
+            let done = perform(rt, &asked.task, input, output, journal);
             let status = finish(&done, faults);
             tell_detail(&done, asked, faults);
             status

@@ -1,8 +1,8 @@
 //! The command `serve`: reflection over the sources of a folder, or over a set, by HTTP.
 #![tactic(auto)]
 
+mod journal;
 mod listening;
-mod log;
 mod serve;
 mod task;
 

@@ -3,8 +3,8 @@
 ghost use Rattle.std.specs.Prelude.{◌≡◌, ◌-◌, ◌<◌, ◌^◌, IfOk};
 ghost use Rattle.schema_serve.specs.Runs.{IsServeRun, IsService, IsServiceOf, IsSetServeRun, end_of_run, of_service};
 
+use crate::journal::Lines;
 use crate::listening::{Listening, listen_at};
-use crate::log::Log;
 use crate::task::ServeTask;
 use counted_io::{CountedWrite, write_bytes};
 use grpcweb_service::{EndedService, ReflectionService, serve_with};
@@ -71,7 +71,7 @@ fn serve_over<R, O, E>(
     compiled: Compiled,
     task: &ServeTask,
     output: &mut O,
-    log: Option<&mut E>,
+    journal: Option<&mut E>,
 ) -> Result<EndedService, Failure>
 where
     R: Wait + Threads + Clock + RandomSource + AllocGlobal + Sync + Clone + Drop + Net,
@@ -86,8 +86,8 @@ where
     let address = bound.address();
     let line = format!(in rt.alloc(); "listening on {address}\n")?;
     write_bytes(output, line.as_bytes())?;
-    let log = Log::new(rt.alloc(), log);
-    let ended = serve_with(rt, &mut runtime, bound, &service, NoGate, log)?;
+    let journal = Lines::new(rt.alloc(), journal);
+    let ended = serve_with(rt, &mut runtime, bound, &service, NoGate, journal)?;
     Ok(ended)
 }
 
@@ -95,14 +95,14 @@ where
 /// with the first fault of the sources, with the device `Listen` where it cannot listen there, and with `Output` where the line
 /// `listening on ADDRESS:PORT` could not be written.
 ///
-/// A log, where there is one, gets a line for each request that was answered, and one for each connection whose answer was
+/// A journal, where there is one, gets a line for each request that was answered, and one for each connection whose answer was
 /// not taken, and why. What it refuses is lost.
 pub fn run_serve<R, F, O, E>(
     rt: &R,
     folder: &F,
     task: &ServeTask,
     output: &mut O,
-    log: Option<&mut E>,
+    journal: Option<&mut E>,
 ) -> Result<EndedService, Failure>
 where
     R: Wait + Threads + Clock + RandomSource + AllocGlobal + Sync + Clone + Drop + Net,
@@ -114,7 +114,7 @@ where
         result }
 {
     let compiled = compile_folder(rt, folder, &Limits::standard(), task.plan)?;
-    serve_over(rt, compiled, task, output, log)
+    serve_over(rt, compiled, task, output, journal)
 }
 
 /// Serves reflection over the files of the set at a path, as `run_serve` does over sources.
@@ -123,7 +123,7 @@ pub fn run_serve_set<R, O, E>(
     set: &str,
     task: &ServeTask,
     output: &mut O,
-    log: Option<&mut E>,
+    journal: Option<&mut E>,
 ) -> Result<EndedService, Failure>
 where
     R: Wait + Threads + Files + Clock + RandomSource + AllocGlobal + Sync + Clone + Drop + Net,
@@ -133,5 +133,5 @@ where
     ensures { IsSetServeRun set.now task.now (O.writes output.old) (O.writes output.new) result }
 {
     let compiled = compiled_set(rt, set, &Limits::standard())?;
-    serve_over(rt, compiled, task, output, log)
+    serve_over(rt, compiled, task, output, journal)
 }

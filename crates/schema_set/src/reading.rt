@@ -6,23 +6,11 @@ ghost use Rattle.schema_failure.specs.declared.failure.Device.TheVariants as dev
 ghost use Rattle.schema_failure.specs.declared.failure.Failure.TheVariants as failures;
 
 use schema_failure::{Device, Failure};
-use std::alloc::{AllocGlobal, Global};
+use source_folder::first_bytes;
+use std::alloc::AllocGlobal;
 use std::fs::{File, OpenFile};
-use std::io::{self, Read};
+use std::io;
 use std::rt::Files;
-
-/// The first bytes of what is read, at most so many. There may be about as many as the size.
-fn first_bytes<I: Read + Drop>(alloc: Global, input: I, size: u64, most: u32) -> io::Result<Vec<u8>>
-    ensures { IfOk result (λ bytes. vec_len bytes ≤ most) }
-{
-    // A byte more than the size, so that the end is met without more memory.
-    let room = size.min(u64::from(most)) as usize + 1;
-    let mut bytes = Vec::with_capacity(alloc, room)?;
-    input.take(u64::from(most)).read_to_end(&mut bytes)?;
-    // It has no more, but the contract of a read to the end tells no length.
-    bytes.truncate(most as usize);
-    Ok(bytes)
-}
 
 /// The first bytes of the file, the device or the pipe at a path, at most so many.
 fn bytes_at<R: Files + AllocGlobal>(rt: &R, path: &str, most: u32) -> io::Result<Vec<u8>>

@@ -1,6 +1,6 @@
 //! Reading the sources of a folder.
 
-ghost use Rattle.std.specs.Prelude.{◌≡◌, ◌+◌, ◌≤◌, All, IfOk, IfSome, IsTrue, None, Ok, map, string_bytes, take, vec_len};
+ghost use Rattle.std.specs.Prelude.{◌≡◌, ◌+◌, ◌≤◌, All, IfOk, IfSome, IsTrue, None, Ok, map, string_bytes, vec_len};
 ghost use Rattle.std.specs.Bool.{OnFalse};
 ghost use Rattle.proto_base.specs.Limits.{limit_of};
 ghost use Rattle.source_folder.specs.Folder.{name_of, names_of};
@@ -8,6 +8,7 @@ ghost use Rattle.proto_base.specs.NameOrder.{NamesRise};
 ghost use Rattle.source_folder.specs.Paths.{ends_in_proto, is_below, joined_path};
 ghost use Rattle.source_folder.specs.Ordered.{paths_of};
 
+use crate::bytes::first_bytes;
 use crate::fault::FolderFault;
 use crate::kind::EntryKind;
 use crate::order::{have_twins, sort_by_path};
@@ -18,7 +19,7 @@ use crate::walk::{ProtoEntry, sources_below};
 use proto_base::{Limit, Limits};
 use std::alloc::{AllocError, AllocGlobal, Global};
 use std::fs::{File, OpenFile};
-use std::io::{self, ErrorKind, Read};
+use std::io::{self, ErrorKind};
 use std::rt::Files;
 
 /// A source of a folder: its path from the root, joined by `/`, and its bytes.
@@ -33,21 +34,6 @@ fn most_bytes(limits: &Limits) -> u32
     ensures { result ≡ limit_of limits.now Limit.FileBytes + 1 }
 {
     limits.read_bound(Limit::FileBytes) as u32
-}
-
-/// The first bytes of what is read, at most so many. There may be about as many as the size.
-fn first_bytes<I: Read + Drop>(alloc: Global, input: I, size: u64, most: u32) -> io::Result<Vec<u8>>
-    ensures bounded { IfOk result (λ bytes. vec_len bytes ≤ most) }
-    ensures prefix { IfOk result (λ bytes. IfSome (I.remaining input)
-        (λ all. bytes.items ≡ take most all)) }
-{
-    // A byte more than the size, so that the end is met without more memory.
-    let room = size.min(u64::from(most)) as usize + 1;
-    let mut bytes = Vec::with_capacity(alloc, room)?;
-    input.take(u64::from(most)).read_to_end(&mut bytes)?;
-    // It has no more, but the contract of a read to the end tells no length.
-    bytes.truncate(most as usize);
-    Ok(bytes)
 }
 
 /// The first bytes of the file at a path, at most so many. What is no file is opened, but not read.

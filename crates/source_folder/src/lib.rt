@@ -1,6 +1,7 @@
 //! The proto3 sources below a folder.
 #![tactic(auto)]
 
+mod bytes;
 mod fault;
 mod folder;
 mod kind;
@@ -10,6 +11,7 @@ mod reason;
 mod trouble;
 mod walk;
 
+pub use bytes::first_bytes;
 pub use fault::FolderFault;
 pub use folder::{
     NamedText, Standing, listed_text, read_folder, read_source, source_names, source_names_below,

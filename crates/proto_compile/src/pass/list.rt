@@ -53,8 +53,9 @@ fn first_repeated(files: &[Source]) -> Option<usize>
     None
 }
 
-/// The sources in the order of their names. There may be no more than the limit, and no two of one name.
-pub(crate) fn files_by_name<'s>(
+/// The sources in the order of their names. There may be no more than the limit, and no two of one name: an error tells the first
+/// fault of the list.
+pub fn files_by_name<'s>(
     alloc: Global,
     sources: &[Source<'s>],
     limits: &Limits,
@@ -62,6 +63,7 @@ pub(crate) fn files_by_name<'s>(
     ensures few { OnOk result (length sources.now ≤ limit_of limits.now limit.Files) }
     ensures files { IfOk result (λ files. AreByName sources.now files.items) }
     ensures first { IfErr result (TellsOf (IsLeastFault limits.now sources.now)) }
+    ensures pass { IfErr result (TellsOf (λ x. x.pass ≡ 0)) }
 {
     if sources.len() as u64 > limits.get(Limit::Files) {
         return Err(refusal(alloc, Pass::List, "", START, Kind::TooManyFiles));

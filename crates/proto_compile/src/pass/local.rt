@@ -1,13 +1,15 @@
 //! The pass over each source by itself.
 
-ghost use Rattle.std.specs.Prelude.{◌≤◌, List, IfOk, IfErr, length};
+ghost use Rattle.std.specs.Prelude.{◌≡◌, ◌≤◌, List, Contains, IfOk, IfErr, length};
 ghost use Rattle.std.specs.List.{AllZip};
 ghost use Rattle.proto_base.specs.Limits.{limit_of};
+ghost use Rattle.proto_base.specs.declared.file_fault.FileFault.{FileFault};
 ghost use Rattle.proto_base.specs.declared.limits.Limit.TheVariants as limit;
 ghost use Rattle.proto_compile.specs.Descriptions.{SourceDescribes};
-ghost use Rattle.proto_compile.specs.FaultSet.{IsLeastFault, TellsOf};
-ghost use Rattle.proto_compile.specs.Sources.{AreByName};
+ghost use Rattle.proto_compile.specs.FaultSet.{IsLeastFault, TellsOf, fault};
+ghost use Rattle.proto_compile.specs.Sources.{AreByName, name_of, text_of};
 ghost use Rattle.proto_compile.specs.declared.source.Source.{Source};
+ghost use Rattle.proto_file.specs.Local.{IsOwnFault};
 
 use crate::error::CompileError;
 use crate::outcome::judge;
@@ -62,6 +64,9 @@ where
     ensures first { (sources : List Source) → length sources ≤ limit_of limits.now limit.Files
         → AreByName sources files.now
         → IfErr result (TellsOf (IsLeastFault limits.now sources)) }
+    ensures own { IfErr result (TellsOf (λ x. (s : Source) × Contains files.now s
+        × ((f : FileFault) × IsOwnFault limits.now (name_of s) (text_of s) f
+        × (x ≡ fault 1 (name_of s) f)))) }
 {
     let work = Describing { limits: *limits };
     let outcomes = workers.each(DESCRIBING, files, &work)?;

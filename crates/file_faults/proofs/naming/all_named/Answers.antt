@@ -1,6 +1,6 @@
 use Rattle.std.proofs.Common.{arith, take_all}
 use Rattle.file_faults.proofs.Naming.{faults_more}
-use Rattle.file_faults.proofs.finding.all_named.Goals as goal
+use Rattle.file_faults.proofs.naming.all_named.Goals as goal
 
 pub loop-at-preserved : goal.loop-at-preserved
 loop-at-preserved c =

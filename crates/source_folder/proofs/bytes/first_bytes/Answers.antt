@@ -1,6 +1,6 @@
 use Rattle.std.proofs.lemmas.Grind.{common_steps}
 use Rattle.std.proofs.Common.{rules, arith}
-use Rattle.source_folder.proofs.folder.first_bytes.Goals as goal
+use Rattle.source_folder.proofs.bytes.first_bytes.Goals as goal
 
 pub returns-clause-bounded : goal.returns-clause-bounded
 returns-clause-bounded g c = search rules

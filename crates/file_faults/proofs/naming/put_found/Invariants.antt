@@ -1,7 +1,7 @@
 use Rattle.std.proofs.Common.{◌≡◌, ◌++◌, map, take}
 use Rattle.file_faults.specs.Found.{named_by}
 use Rattle.proto_compile.specs.FaultSet.{told_by}
-use Rattle.file_faults.proofs.finding.put_found.Given as goal
+use Rattle.file_faults.proofs.naming.put_found.Given as goal
 
 abbrev pub invariant-loop-fault : goal.invariant-loop-fault
 invariant-loop-fault l =

@@ -38,18 +38,18 @@ impl fmt::Display for Said<'_> {
 
 /// Writes what is said of each connection, by one call for each. Without a writer nothing is kept.
 #[derive(Drop)]
-pub(crate) struct Log<'a, E> {
+pub(crate) struct Lines<'a, E> {
     alloc: Global,
     writer: Option<&'a mut E>,
 }
 
-impl<'a, E> Log<'a, E> {
-    pub(crate) fn new(alloc: Global, writer: Option<&'a mut E>) -> Log<'a, E> {
-        Log { alloc, writer }
+impl<'a, E> Lines<'a, E> {
+    pub(crate) fn new(alloc: Global, writer: Option<&'a mut E>) -> Lines<'a, E> {
+        Lines { alloc, writer }
     }
 }
 
-impl<E: Write> Journal for Log<'_, E> {
+impl<E: Write> Journal for Lines<'_, E> {
     fn is_kept(&self) -> bool {
         self.writer.is_some()
     }
