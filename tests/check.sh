@@ -94,13 +94,61 @@ $(said FieldNumberTwice)
 $unseen
 REPORT
 
-# Where no file has a fault of its own, the first of the later passes.
+# Where no file has a fault of its own, all of the first later pass that has one: imports, then names, then types.
 printf 'syntax = "proto3";\nmessage A {\n  Missing x = 1;\n  Missing y = 2;\n}\n' >later/a.proto
-one 3:3 TypeNotFound later/ <<'SHOWN'
-  nothing is called `Missing`
+checked 1 later/ <<REPORT
+later/a.proto:3:3: TypeNotFound
+  nothing is called \`Missing\`
   3 |   Missing x = 1;
     |   ^^^^^^^
-SHOWN
+$(said TypeNotFound)
+later/a.proto:4:3: TypeNotFound
+  nothing is called \`Missing\`
+  4 |   Missing y = 2;
+    |   ^^^^^^^
+2 faults in 1 file
+REPORT
+mkdir -p imports names
+printf 'syntax = "proto3";\nimport "b.proto";\nimport "c.proto";\nmessage A { Missing x = 1; }\n' >imports/a.proto
+printf 'syntax = "proto3";\nimport "a.proto";\nmessage A {}\n' >imports/b.proto
+printf 'syntax = "proto3";\nimport "zzzzzzz.proto";\n' >imports/d.proto
+checked 1 imports <<REPORT
+imports/a.proto:2:8: ImportCycle
+  a.proto -> b.proto -> a.proto
+  2 | import "b.proto";
+    |        ^^^^^^^^^
+$(said ImportCycle)
+imports/a.proto:3:8: ImportMissing
+  no file is called \`c.proto\`; a similar name is \`a.proto\`
+  3 | import "c.proto";
+    |        ^^^^^^^^^
+$(said ImportMissing)
+imports/b.proto:2:8: ImportCycle
+  b.proto -> a.proto -> b.proto
+  2 | import "a.proto";
+    |        ^^^^^^^^^
+imports/d.proto:2:8: ImportMissing
+  \`zzzzzzz.proto\` is no file below the root or an --include
+  2 | import "zzzzzzz.proto";
+    |        ^^^^^^^^^^^^^^^
+4 faults in 3 files
+names and types are looked at when these are mended
+REPORT
+printf 'syntax = "proto3";\nmessage A { Missing x = 1; }\nmessage B {}\n' >names/a.proto
+printf 'syntax = "proto3";\nenum B { A = 0; }\n' >names/b.proto
+checked 1 names <<REPORT
+names/b.proto:2:6: NameTwice
+  \`B\` is the name of a message: names/a.proto:3:9
+  2 | enum B { A = 0; }
+    |      ^
+$(said NameTwice)
+names/b.proto:2:10: NameTwice
+  \`A\` is the name of a message: names/a.proto:2:9
+  2 | enum B { A = 0; }
+    |          ^
+2 faults in 2 files
+types are looked at when these are mended
+REPORT
 
 # The end of a file, and bytes that are no UTF-8.
 printf 'syntax = "proto3";\nmessage A {' >mixed/a.proto

@@ -43,6 +43,7 @@ module _ (limits : Limits) (sources : List Source) (first : SourceFault)
   all_from told several all up = let (rest, is) = begins told all up in record {
     rest = rest;
     begins = is;
+    are = λ x inside. (all x).0 inside;
     alone = λ one. absurd (several one);
     all = λ _. all;
     order = up;
@@ -55,6 +56,10 @@ module _ (limits : Limits) (sources : List Source) (first : SourceFault)
   alone_from one = record {
     rest = [];
     begins = refl;
+    are = λ x inside. elim (front_or_behind first [] x inside) [
+      | inl here ↦ rw (← here) least.among
+      | inr later ↦ absurd (none_in x later)
+    ];
     alone = λ _. refl;
     all = λ several. absurd (several one);
     order = one_pair;

@@ -7,7 +7,7 @@ use Rattle.proto_base.specs.Least.{Precedes as SpotPrecedes}
 use Rattle.proto_base.specs.Sets.{StandsAt}
 use Rattle.proto_base.specs.declared.spot.Spot.{Spot}
 use Rattle.proto_links.specs.Bad.{Precedes}
-use Rattle.proto_links.specs.declared.file_spot.FileSpot.{FileSpot}
+use Rattle.proto_links.specs.declared.bad.FileSpot.{FileSpot}
 use Rattle.share_work.proofs.Sums.{in_map, none_in, of_map, pairs_cons, pairs_first, all_of}
 use Rattle.file_faults.specs.FaultSpots.{in_file, spots_from}
 use Rattle.file_faults.proofs.Telling.{pairs_behind}

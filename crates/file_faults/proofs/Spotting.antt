@@ -18,7 +18,7 @@ use Rattle.proto_desc.specs.declared.file.FileDesc.{FileDesc}
 use Rattle.proto_links.proofs.NameRows.{rise_far}
 use Rattle.proto_links.specs.Bad.{AreAllBad, Precedes}
 use Rattle.proto_links.specs.Imports.{name_of}
-use Rattle.proto_links.specs.declared.file_spot.FileSpot.{FileSpot}
+use Rattle.proto_links.specs.declared.bad.FileSpot.{FileSpot}
 use Rattle.proto_names.specs.Occurrences.{occurrences}
 use Rattle.proto_names.specs.Repeated.{AreAllTwice, name_twice}
 use Rattle.share_work.proofs.Sums.{front, behind, none_in, of_map, pairs_cons, pairs_first}

@@ -9,7 +9,7 @@ use Rattle.proto_compile.proofs.OneTyping.{broken_by_index, item_at}
 use Rattle.proto_desc.specs.declared.file.FileDesc.{FileDesc}
 use Rattle.proto_links.specs.Linked.{AreLinked, Linked}
 use Rattle.proto_links.specs.Visible.{Sees}
-use Rattle.proto_links.specs.declared.file_spot.FileSpot.{FileSpot}
+use Rattle.proto_links.specs.declared.bad.FileSpot.{FileSpot}
 use Rattle.proto_names.specs.Index.{Index, Indexes}
 use Rattle.proto_names.specs.Occurrences.{occurrences}
 use Rattle.proto_types.specs.References.{TypesBreak}

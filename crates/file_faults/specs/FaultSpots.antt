@@ -13,7 +13,7 @@ use Rattle.proto_links.specs.Bad.{AreAllBad, Precedes}
 use Rattle.proto_links.specs.Imports.{NoneBad, name_at}
 use Rattle.proto_links.specs.Linked.{Linked}
 use Rattle.proto_links.specs.Visible.{Sees}
-use Rattle.proto_links.specs.declared.file_spot.FileSpot.{FileSpot}
+use Rattle.proto_links.specs.declared.bad.FileSpot.{FileSpot}
 use Rattle.proto_names.specs.Index.{Index}
 use Rattle.proto_names.specs.Occurrences.{NoneTwice, occurrences}
 use Rattle.proto_names.specs.Repeated.{AreAllTwice}

@@ -19,6 +19,7 @@ pub record AreFaultsFrom (limits : Limits) (sources : List Source) (first : Sour
     : Type 0 where
   pub rest : List SourceFault
   pub begins : faults ≡ first ∷ rest
+  pub are : (x : SourceFault) → Contains faults x → IsFault limits sources x
   pub alone : IsToldAlone first → rest ≡ []
   pub all : (IsToldAlone first → ⊥) → AreAllFaults limits sources faults
   pub order : AllPairs IsEarlier faults

@@ -1,3 +1,4 @@
+mod AllBad
 mod Common
 mod Faulting
 pub mod NameRows

@@ -1,5 +1,6 @@
 -- What files reach and see, when none of their imports is bad, and what lists of their positions say of them.
 use Rattle.proto_links.proofs.Common.{◌≡◌, ℕ, ◌<◌, List, length, refl, subst, arith, inl, inr, ◌⊎◌, Contains, ◌↔◌, rules, [], get_or, zero-add, ◌+◌, map, Vec, Global, IsTrue, ◌==◌, eqb-true, Graph, Edge, IsFalling, IsWithin, graph_of, Leads, here, through, leads_map, leads_last, joined_two, length_graph, leads_le, edge_below, FileDesc, Kind, IsGraph, HasMissing, IsPublicGraph, Imports, ImportsPublicly, Reaches, NoneBad, IsWrong, missing, cyclic, imports_at, Contains-get_or, get_or-map, get_or_default, length-map, reach_of, sees, AreLinked, IsReach, common_steps}
+use Rattle.proto_links.specs.Graphs.{HasNoWayBack}
 use Rattle.digraph.specs.Reaches.{HasNoCycle, IsReach as IsReachList}
 use Rattle.digraph.specs.Ranks.{rank_in, IsRanked}
 use Rattle.proto_desc.specs.declared.file.ImportDescriptor.{ImportDescriptor}
@@ -64,13 +65,16 @@ module _ (files : List FileDesc) (none : NoneBad files) (a : ℕ) where
 -- ---- files without a bad import
 
 module _ {files : List FileDesc} {g : Graph} {ranks : List ℕ} (is : IsGraph files g) (ranked : IsRanked g ranks) where
+  pub ranked_straight : HasNoWayBack files
+  ranked_straight a b step reach =
+      let falls : (x y : ℕ) → Imports files x y → rank_in ranks y < rank_in ranks x =
+      λ x y step. ranked.above x y ((is.edges x y).1 step) in
+      omega (arith, falls a b step, leads_le (Imports files) (rank_in ranks) falls a b reach)
+
   not_wrong : (a : ℕ) (i : ImportDescriptor) (k : Kind) → (HasMissing files (imports_at files a) → ⊥)
       → Contains (imports_at files a) i → IsWrong files a i k → ⊥
   not_wrong a i _ whole w (missing none) = whole (i, w, none)
-  not_wrong a i _ whole w (cyclic b n reach) =
-      let falls : (x y : ℕ) → Imports files x y → rank_in ranks y < rank_in ranks x =
-      λ x y step. ranked.above x y ((is.edges x y).1 step) in
-      omega (arith, falls a b (i, w, n), leads_le (Imports files) (rank_in ranks) falls a b reach)
+  not_wrong a i _ whole w (cyclic b n reach) = ranked_straight a b (i, w, n) reach
 
   pub none_bad : ((a : ℕ) → HasMissing files (imports_at files a) → ⊥) → NoneBad files
   none_bad whole a p k (i, w, at, wrong) = not_wrong a i k (whole a) w wrong

@@ -5,7 +5,7 @@ ghost use Rattle.digraph.specs.Edges.{graph_of};
 ghost use Rattle.digraph.specs.Marks.{IsMarked};
 ghost use Rattle.proto_desc.specs.declared.file.ImportDescriptor.{ImportDescriptor};
 ghost use Rattle.proto_links.specs.Graphs.{IsGraph, IsWrongIn};
-ghost use Rattle.proto_links.specs.Imports.{IsWrong, NoneBad, Reaches, imports_at, name_of};
+ghost use Rattle.proto_links.specs.Imports.{IsNamed, IsWrong, NoneBad, Reaches, imports_at, name_of};
 ghost use Rattle.proto_links.specs.Bad.{IsFirstBad};
 ghost use Rattle.proto_base.specs.NameOrder.{NamesRise};
 ghost use Rattle.proto_base.specs.Least.{IsLeast};
@@ -17,8 +17,8 @@ use proto_base::{Kind, Spot, lesser};
 use proto_desc::file::{FileDesc, ImportDescriptor};
 use std::alloc::{AllocError, Global};
 
-/// What is wrong with an import of a file, where the files that reach it are marked.
-fn fault_of(
+/// What is wrong with an import of a file, where the file that it names is marked if it reaches that one.
+pub(crate) fn fault_of(
     files: &[FileDesc],
     file: usize,
     import: &ImportDescriptor,
@@ -26,7 +26,8 @@ fn fault_of(
 ) -> Option<Kind>
     requires order { NamesRise (map name_of files.now) }
     requires room { length reaching.now ≡ length files.now }
-    requires reaching { (b : ℕ) → IsMarked reaching.now b ↔ Reaches files.now b file }
+    requires reaching { (b : ℕ) → IsNamed files.now import.now.path b
+        → IsMarked reaching.now b ↔ Reaches files.now b file }
     ensures { MatchOption result ((k : Kind) → IsWrong files.now file import.now k → ⊥)
         (λ kind. IsWrong files.now file import.now kind
         × ((k : Kind) → IsWrong files.now file import.now k → k ≡ kind)) }

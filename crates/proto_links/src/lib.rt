@@ -3,6 +3,7 @@
 //! The standard is the proto3 language guide, "Importing Definitions".
 #![tactic(auto)]
 
+mod bad;
 mod faults;
 mod graph;
 mod laws;
@@ -11,6 +12,7 @@ mod links;
 mod order;
 mod positioned;
 
+pub use bad::{FileSpot, bad_imports};
 pub use laws::links_are_unique;
 pub use linking::{LinkError, link};
 pub use links::{FileId, Links};

@@ -1,6 +1,6 @@
 -- Which faults of sources are told.
-use Rattle.std.specs.Prelude.{◌≡◌, ◌≢◌, ◌⊎◌, ◌-◌, ◌^◌, ◌<◌, ◌≤◌, List, [], ◌∷◌, Option, None, Some, Contains, length, map, string_bytes}
-use Rattle.file_faults.specs.OwnFaults.{AreAllFaults, AreFileFaults}
+use Rattle.std.specs.Prelude.{◌≡◌, ◌-◌, ◌^◌, ◌<◌, ◌≤◌, List, [], ◌∷◌, Option, None, Some, Contains, length, map, string_bytes}
+use Rattle.file_faults.specs.PassFaults.{AreFaultsFrom}
 use Rattle.proto_base.specs.declared.fault.Fault.{Fault}
 use Rattle.proto_base.specs.declared.limits.Limits.{Limits}
 use Rattle.proto_compilation.specs.Compilation.{Compilation}
@@ -9,14 +9,11 @@ use Rattle.proto_compile.specs.FaultSet.{IsLeastFault, IsPlaced, told_by}
 use Rattle.proto_compile.specs.Sources.{name_of, text_of}
 use Rattle.proto_compile.specs.declared.source.Source.{Source}
 
--- none, where the sources are compiled; else, where the least of all faults is a source's own, exactly all faults, each
--- source's in the order of the sources; else the least alone
+-- none, where the sources are compiled; else the first of all faults, and all others that are told with it
 abbrev pub AreTold : Limits → List Source → List Fault → Type 0
 AreTold limits sources [] = (c : Compilation) × IsCompiled limits sources c
-AreTold limits sources (f ∷ faults) = (first : Fault) × IsLeastFault limits sources (told_by first)
-    × (((first.pass ≡ 1) × AreAllFaults limits sources (map told_by (f ∷ faults))
-    × AreFileFaults limits sources (map told_by (f ∷ faults)))
-    ⊎ ((first.pass ≢ 1) × (f ≡ first) × (faults ≡ [])))
+AreTold limits sources (f ∷ faults) = IsLeastFault limits sources (told_by f)
+    × AreFaultsFrom limits sources (told_by f) (map told_by (f ∷ faults))
 
 -- the fault lies within each source that has the name of its file
 pub record LiesWithin (sources : List Source) (f : Fault) : Type 0 where

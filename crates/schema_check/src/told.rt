@@ -3,9 +3,9 @@
 ghost use Rattle.std.specs.Prelude.{IfOk};
 ghost use Rattle.schema_check.specs.Told.{ArePlaced, AreTold, IsFirst};
 
-use file_faults::faults_of_files;
+use file_faults::all_faults;
 use proto_base::{Fault, Limits};
-use proto_compile::{CompileError, LOCAL_PASS, Source, compile};
+use proto_compile::{CompileError, Source, compile};
 use share_work::{NoGate, Plan};
 use std::alloc::{AllocError, AllocGlobal};
 use std::thread::Threads;
@@ -28,9 +28,8 @@ where
     }
 }
 
-/// The faults of sources that can be told at once: where the first of all is one of a source by itself, all that sources have by
-/// themselves, in the order of the sources, and in one by place and then by the kind's number; else the first of all, alone; none
-/// only where the sources are compiled.
+/// The faults of sources that can be told at once, in their order: the first of all, and all others of its pass (`all_faults`). There is
+/// none only where the sources are compiled.
 pub fn told_faults<R>(
     rt: &R,
     sources: &[Source],
@@ -42,11 +41,8 @@ where
     ensures told { IfOk result (λ faults. AreTold limits.now sources.now faults.items) }
     ensures placed { IfOk result (λ faults. ArePlaced sources.now faults.items) }
 {
-    let Some(first) = first_fault(rt, sources, limits, plan)? else {
-        return Ok(Vec::new(rt.alloc()));
-    };
-    if first.pass == LOCAL_PASS {
-        return faults_of_files(rt, sources, limits, plan, &NoGate);
+    match first_fault(rt, sources, limits, plan)? {
+        Some(first) => all_faults(rt, sources, first, limits, plan, &NoGate),
+        None => Ok(Vec::new(rt.alloc())),
     }
-    Ok(vec![in rt.alloc(); first]?)
 }

@@ -10,13 +10,14 @@ returns-in-None c =
 pub returns-then-reaching-target : goal.returns-then-reaching-target
 returns-then-reaching-target c =
     let named = rw c.as_str.ensures at c.in-Some.ensures in
-    let back = (c.requires.reaching c.in-Some.target).0
+    let back = (c.requires.reaching c.in-Some.target named).0
     (omega arith, c.if-reaching-target.true) in (
       cyclic c.in-Some.target named back,
       only_cyclic _ _ c.args.import.now _ named,
     )
 
 pub returns-else-reaching-target : goal.returns-else-reaching-target
-returns-else-reaching-target c = no_fault _ _ c.args.import.now _
-    c.requires.order (rw c.as_str.ensures at c.in-Some.ensures)
-    (λ r. false≢true (sym c.if-reaching-target.false ∙ ((c.requires.reaching c.in-Some.target).1 r).1))
+returns-else-reaching-target c =
+    let named = rw c.as_str.ensures at c.in-Some.ensures in
+    no_fault _ _ c.args.import.now _ c.requires.order named
+    (λ r. false≢true (sym c.if-reaching-target.false ∙ ((c.requires.reaching c.in-Some.target named).1 r).1))
