@@ -68,7 +68,7 @@ while IFS='|' read -r sources mode title body wanted; do
     rows=$((rows + 1))
     repeat=()
     [ "$mode" != repeat ] || repeat=(--repeat)
-    for plan in '1 4096' '2 1' '64 1'; do
+    for plan in '1 1' '1 4096' '2 1' '2 4096' '64 1' '64 4096'; do
         read -r workers cut <<<"$plan"
         got=$(from_hex "$body" | "$program" answer --root "$folder/$sources" --workers "$workers" --cut "$cut" "${repeat[@]}" | to_hex)
         [ "$got" = "$wanted" ] || fail "$title, by $workers workers, cut $cut: $got"

@@ -116,8 +116,23 @@ more set "$folder/none.pb: $missing" answer --set "$folder/none.pb"
 more set "$folder: Is a directory (os error 21)" serve --set "$folder" --listen 127.0.0.1:0
 more output "$folder/none/set.pb: $missing" compile --root "$folder/sources" --output "$folder/none/set.pb"
 more output "$folder: is a directory" compile --root "$folder/sources" --output "$folder"
+more output "$folder/none/set.d: $missing" compile --root "$folder/sources" --output "$folder/set.pb" --dependency_out "$folder/none/set.d"
 more listen 'localhost:80: no address and port' serve --root "$folder/sources" --listen localhost:80
 more listen '192.0.2.1:80: Cannot assign requested address (os error 99)' serve --root "$folder/sources" --listen 192.0.2.1:80
+for command in 'describe a.proto' "compile --root $folder/sources" "check --root $folder/sources" explain; do
+    # shellcheck disable=SC2086
+    "$program" $command --verbose <"$point" >/dev/full 2>"$folder/faults"
+    got=$?
+    [ "$got" = 3 ] && [ "$(cat "$folder/faults")" = $'device: output\nstandard output: No space left on device (os error 28)' ] ||
+        failed "$command --verbose: $(cat "$folder/faults")" "$got"
+done
+for command in 'describe a.proto' "answer --root $folder/sources"; do
+    # shellcheck disable=SC2086
+    "$program" $command --verbose <"$folder" >"$folder/output" 2>"$folder/faults"
+    got=$?
+    [ "$got" = 3 ] && [ "$(cat "$folder/faults")" = $'device: input\nstandard input: Is a directory (os error 21)' ] ||
+        failed "$command --verbose: $(cat "$folder/faults")" "$got"
+done
 # Where the sources have no fault it adds nothing.
 "$program" compile --root "$folder/sources" --verbose >/dev/null 2>"$folder/faults" && [ ! -s "$folder/faults" ] || failed 'compile --verbose' "$?"
 # A line that cannot be printed leaves the status.

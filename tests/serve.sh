@@ -49,6 +49,7 @@ has 'content-type: application/grpc-web+proto'
 asks 'a request to v1alpha' 200 "$reply_a $t0" -H "$web" --data-binary "@$folder/request" "$url$v1alpha"
 asks 'a query' 200 "$reply_a $t0" -H "$web" --data-binary "@$folder/request" "$url$v1?x=/y"
 asks 'an empty body' 200 "$t0" -H "$web" --data-binary "@$folder/nothing" "$url$v1"
+asks 'an empty body to v1alpha' 200 "$t0" -H "$web" --data-binary "@$folder/nothing" "$url$v1alpha"
 asks 'a request twice' 200 "$reply_a 00 00 00 00 0D 12 09 $request_a 22 00 $t0" -H "$web" --data-binary "@$folder/twice" "$url$v1"
 asks 'v1beta' 200 "$t12" -H "$web" --data-binary "@$folder/request" "$url$v1beta"
 has 'content-type: application/grpc-web+proto'

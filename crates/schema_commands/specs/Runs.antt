@@ -65,12 +65,13 @@ IsOutput writes writes' bytes (Ok b) = IsWritten writes writes' bytes
 IsOutput writes writes' bytes (Err f) =
     IsOfDevice device.Output f × (written : ℕ) × IsWrittenInPart writes writes' bytes written
 
--- how a set was written: to the writer; or to the file that is named, which may be where the writer writes
+-- how a set was written: to the writer; or to the file that is named, which may be where the writer writes, behind the
+-- file of its rule
 abbrev pub IsSetRun : {A B : Type 0} → Option A → Writes → Writes → List ℕ → Result B Failure → Type 0
 IsSetRun None writes writes' set done = IsOutput writes writes' set done
 IsSetRun (Some file) writes writes' set (Ok b) = (writes' ≡ writes) ⊎ IsWritten writes writes' set
 IsSetRun (Some file) writes writes' set (Err f) =
-    ((IsOfDevice device.Output f ⊎ (f ≡ failure.NoMemory)) × (writes' ≡ writes))
+    ((IsOfDevice device.Output f ⊎ IsOfDevice device.Dependencies f ⊎ (f ≡ failure.NoMemory)) × (writes' ≡ writes))
     ⊎ (IsOfDevice device.Output f × (written : ℕ) × IsWrittenInPart writes writes' set written)
 
 -- `compile`: the set of the folder's texts is written; or their first fault is told, and nothing written

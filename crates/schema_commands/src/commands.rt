@@ -7,7 +7,7 @@ ghost use Rattle.schema_compile.specs.Told.{IsToldOf};
 
 use crate::dependencies::{SetFiles, rule_of};
 use crate::set_writing::{Chunk, SetWriter};
-use crate::whole_file::{write_text, write_whole};
+use crate::whole_file::{write_rule, write_whole};
 use counted_io::{CountedRead, CountedWrite, read_bytes, write_bytes};
 use grpcweb_core::{Mode, answer_io};
 use proto_base::{Limit, Limits};
@@ -112,7 +112,7 @@ where
     if let (Some(target), Some(dependencies)) = (files.set, files.dependencies) {
         let order = set.compiled.links().set_order();
         let rule = rule_of(rt.alloc(), folder, root, texts, target, order)?;
-        write_text(rt, dependencies, rule.as_str())?;
+        write_rule(rt, dependencies, rule.as_str())?;
     }
     write_set(rt, files.set, set, writer)
 }

@@ -327,19 +327,19 @@ where
     }
 }
 
-/// Writes a text where a path leads. The standard output is refused, since a set may go there.
-pub(crate) fn write_text<R>(rt: &R, path: &str, text: &str) -> Result<(), Failure>
+/// Writes the rule of a set where a path leads. The standard output is refused, since a set may go there.
+pub(crate) fn write_rule<R>(rt: &R, path: &str, rule: &str) -> Result<(), Failure>
 where
     R: Files + RandomSource + AllocGlobal,
-    ensures { IfErr result (λ f. IsOfDevice devices.Output f ⊎ (f ≡ failures.NoMemory)) }
+    ensures { IfErr result (λ f. IsOfDevice devices.Dependencies f ⊎ (f ≡ failures.NoMemory)) }
 {
-    let mut contents = text;
+    let mut contents = rule;
     let written = match destination_of(rt, path) {
         Ok(destination) => write_to(rt, path, destination, &mut contents),
         Err(error) => Err(error),
     };
     match written {
         Ok(()) => Ok(()),
-        Err(error) => Err(Failure::of_error(Device::Output, error)),
+        Err(error) => Err(Failure::of_error(Device::Dependencies, error)),
     }
 }

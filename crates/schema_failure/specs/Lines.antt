@@ -23,6 +23,7 @@ shown_name name = flat_map shown_char (chars name)
 abbrev pub device_name : Device → List ℕ
 device_name device.Input = codes "input"
 device_name device.Output = codes "output"
+device_name device.Dependencies = codes "output"
 device_name device.Set = codes "set"
 device_name device.Listen = codes "listen"
 device_name device.Accept = codes "accept"

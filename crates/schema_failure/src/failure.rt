@@ -70,6 +70,8 @@ pub enum Device {
     Input,
     /// Standard output, or the file that the set goes to.
     Output,
+    /// The file of the rule that says of which sources a set is made.
+    Dependencies,
     /// The file of a set.
     Set,
     /// The address and the port of a service.
@@ -85,7 +87,7 @@ impl Device {
     {
         match self {
             Device::Input => "input",
-            Device::Output => "output",
+            Device::Output | Device::Dependencies => "output",
             Device::Set => "set",
             Device::Listen => "listen",
             Device::Accept => "accept",

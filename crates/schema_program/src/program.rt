@@ -245,7 +245,7 @@ where
     match device {
         Device::Input => input.last_error(),
         Device::Output => output.last_error(),
-        Device::Set | Device::Listen | Device::Accept => None,
+        Device::Dependencies | Device::Set | Device::Listen | Device::Accept => None,
     }
 }
 
@@ -286,6 +286,13 @@ fn called<'a>(device: Device, task: &Task<'a>) -> &'a str {
             },
         ) => file,
         (Device::Output, _) => "standard output",
+        (
+            Device::Dependencies,
+            Task::Compile {
+                dependencies: Some(file),
+                ..
+            },
+        ) => file,
         (
             Device::Set,
             Task::Serve {
