@@ -26,7 +26,11 @@ const GRAMMAR: u8 = 1;
 const RULES: u8 = 2;
 
 /// The tree of a text, or why it has none.
-pub fn tree_of<'s>(alloc: Global, text: &'s [u8], limits: &Limits) -> Result<FileTree<'s>, FileError>
+pub fn tree_of<'s>(
+    alloc: Global,
+    text: &'s [u8],
+    limits: &Limits,
+) -> Result<FileTree<'s>, FileError>
     ensures file { IfOk result (IsFile limits.now text.now) }
     ensures fault { IfErr result (TellsFirst (IsTextFault limits.now text.now)) }
 {
