@@ -8,4 +8,5 @@ pub mod Tabled
 pub mod Unique
 mod Listing
 mod EntryLemmas
+mod Repeating
 mod Parting

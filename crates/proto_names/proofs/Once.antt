@@ -88,16 +88,16 @@ pub first_listed : (known : List (Option Location)) (first : Option Location) �
 first_listed known None is = is.least
 first_listed known (Some f) is = record { among = is.found f refl; least = is.least }
 
--- what is repeated among the first n
-abbrev pub KnownTo : List Occurrence → ℕ → Location → Type 0
-KnownTo os n l = (k : ℕ) × (k < n) × Repeats os k × (location_of (at os k) ≡ l)
+-- what is repeated among the first n, as a function tells of it
+abbrev pub KnownTo : {X : Type 0} → (Occurrence → X) → List Occurrence → ℕ → X → Type 0
+KnownTo f os n x = (k : ℕ) × (k < n) × Repeats os k × (f (at os k) ≡ x)
 
-pub known_split : (os : List Occurrence) (n : ℕ) (l : Location) → KnownTo os (n + 1) l
-    → KnownTo os n l ⊎ (Repeats os n × (location_of (at os n) ≡ l))
-known_split os n l (k, below, repeats, is) = grind (arith, cases_lt k n)
+pub known_split : {X : Type 0} (f : Occurrence → X) (os : List Occurrence) (n : ℕ) (x : X) → KnownTo f os (n + 1) x
+    → KnownTo f os n x ⊎ (Repeats os n × (f (at os n) ≡ x))
+known_split f os n x (k, below, repeats, is) = grind (arith, cases_lt k n)
 
 abbrev pub Passed : List Occurrence → ℕ → Option Location → Type 0
-Passed os n = IsFirstKnown (λ l. (b : Occurrence) × IsTwice os b × (location_of b ≡ l)) (KnownTo os n)
+Passed os n = IsFirstKnown (λ l. (b : Occurrence) × IsTwice os b × (location_of b ≡ l)) (KnownTo location_of os n)
 
 pub passed_all : (os : List Occurrence) (n : ℕ) (known : Option Location) → length os ≤ n → Passed os n known
     → MatchOption known (NoneTwice os) (λ s. IsFirstTwice os s.file s.place)

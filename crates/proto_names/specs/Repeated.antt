@@ -1,11 +1,14 @@
--- What is so of an index, and the first name that occurs twice.
-use Rattle.std.specs.Prelude.{◌≡◌, ℕ, ◌≤◌, List, length, Some, Contains, slice_get}
+-- What is so of an index, and names that occur twice: the first of them, and all.
+use Rattle.std.specs.Prelude.{◌≡◌, ◌↔◌, ℕ, ◌≤◌, List, length, Some, AllPairs, Contains, slice_get}
 use Rattle.proto_desc.specs.declared.file.FileDesc.{FileDesc}
-use Rattle.proto_base.specs.Least.{IsLeastBy}
+use Rattle.proto_base.specs.Least.{IsLeastBy, spot}
 use Rattle.proto_base.specs.Limits.{limit_of}
+use Rattle.proto_base.specs.declared.kind.Kind.TheVariants as kind
 use Rattle.proto_base.specs.declared.limits.Limit.TheVariants as limit
 use Rattle.proto_base.specs.declared.limits.Limits.{Limits}
 use Rattle.proto_base.specs.declared.place.Place.{Place}
+use Rattle.proto_links.specs.Bad.{Precedes}
+use Rattle.proto_links.specs.declared.bad.FileSpot.{FileSpot}
 use Rattle.proto_names.specs.Occurrences.{Occurrence, IsPackage, occurrences, IsNoLater, IsTwice}
 use Rattle.proto_names.specs.Index.{Index, IndexesNames}
 
@@ -13,6 +16,15 @@ use Rattle.proto_names.specs.Index.{Index, IndexesNames}
 abbrev pub IsFirstTwice : List Occurrence → ℕ → Place → Type 0
 IsFirstTwice os file place =
     (b : Occurrence) × IsLeastBy IsNoLater (IsTwice os) b × (b.file ≡ file) × (b.place ≡ place)
+
+-- the fault of an occurrence that occurs twice, in its file and at its place
+abbrev pub name_twice : Occurrence → FileSpot
+name_twice b = record { file = b.file; spot = spot b.place kind.NameTwice }
+
+-- exactly the occurrences that occur twice, as faults, by file and place, each place once
+pub record AreAllTwice (os : List Occurrence) (twice : List FileSpot) : Type 0 where
+  pub all : (x : FileSpot) → Contains twice x ↔ ((b : Occurrence) × IsTwice os b × (x ≡ name_twice b))
+  pub order : AllPairs Precedes twice
 
 -- the first occurrence that repeats a name, of no more than the limit
 pub record IsRepeatedAmong (names : List Occurrence) (limits : Limits) (file : ℕ) (place : Place) : Type 0 where

@@ -1,13 +1,17 @@
-//! The first name that occurs twice.
+//! Names that occur twice: the first of them, and all.
 
-ghost use Rattle.std.specs.Prelude.{◌≡◌, ◌≢◌, ◌↔◌, ◌+◌, ◌-◌, ◌<◌, ◌≤◌, IsTrue, false, MatchOption, length};
-ghost use Rattle.proto_names.specs.Occurrences.{NoneTwice};
-ghost use Rattle.proto_names.specs.Repeated.{IsFirstTwice};
-ghost use Rattle.proto_names.specs.Order.{AreInOrder, IsEarlierOf};
+ghost use Rattle.std.specs.Prelude.{◌≡◌, ◌≢◌, ◌↔◌, ◌+◌, ◌-◌, ◌<◌, ◌≤◌, Contains, IfOk, IsTrue, false, MatchOption, length};
+ghost use Rattle.proto_links.specs.declared.bad.FileSpot.{FileSpot};
+ghost use Rattle.proto_names.specs.Occurrences.{NoneTwice, Occurrence, IsTwice};
+ghost use Rattle.proto_names.specs.Repeated.{IsFirstTwice, name_twice};
+ghost use Rattle.proto_names.specs.Order.{AreInOrder, IsEarlierOf, location_of};
 ghost use Rattle.proto_names.specs.Runs.{IsRun, Repeats, at};
 
 use crate::entry::Location;
 use crate::names::Names;
+use proto_base::{Kind, Spot};
+use proto_links::{FileId, FileSpot};
+use std::alloc::{AllocError, Global};
 
 /// The entries of one name before a position: where they begin, and whether one of them is no package.
 #[derive(Clone, Copy)]
@@ -15,6 +19,12 @@ struct NameRun {
     start: usize,
     has_element: bool,
 }
+
+/// The run before the first entry.
+const NO_RUN: NameRun = NameRun {
+    start: 0,
+    has_element: false,
+};
 
 /// Whether what stands at a position has the name of what stands before it.
 pub(crate) fn continues(names: &Names, position: usize) -> bool
@@ -85,10 +95,7 @@ pub(crate) fn first_twice(names: &Names) -> Option<Location>
         (λ location. IsFirstTwice names.now location.file location.place) }
 {
     let mut first = None;
-    let mut run = NameRun {
-        start: 0,
-        has_element: false,
-    };
+    let mut run = NO_RUN;
     for position in 0..names.len() {
         run = run_at(names, run, position);
         if is_twice(names, run, position) {
@@ -96,4 +103,33 @@ pub(crate) fn first_twice(names: &Names) -> Option<Location>
         }
     }
     first
+}
+
+/// The fault of a name that occurs twice, at a location.
+fn name_twice(location: Location) -> FileSpot
+    ensures { (b : Occurrence) → location ≡ location_of b → result ≡ name_twice b }
+{
+    let place = location.place;
+    let kind = Kind::NameTwice;
+    FileSpot {
+        file: location.file as FileId,
+        spot: Spot { place, kind },
+    }
+}
+
+/// All occurrences with another one of their name that comes no later, of entries in order. Some stand there more than once.
+pub(crate) fn all_twice(alloc: Global, names: &Names) -> Result<Vec<FileSpot>, AllocError>
+    requires { AreInOrder names.now }
+    ensures { IfOk result (λ spots. (x : FileSpot)
+        → Contains spots.items x ↔ ((b : Occurrence) × IsTwice names.now b × (x ≡ name_twice b))) }
+{
+    let mut spots = Vec::new(alloc);
+    let mut run = NO_RUN;
+    for position in 0..names.len() {
+        run = run_at(names, run, position);
+        if is_twice(names, run, position) {
+            spots.push(name_twice(names.location(position)))?;
+        }
+    }
+    Ok(spots)
 }

@@ -1,4 +1,4 @@
-use Rattle.proto_names.proofs.Common.{◌≡◌, ◌∙◌, sym, ◌+◌, ◌-◌, arith, inl, inr, at}
+use Rattle.proto_names.proofs.Common.{◌≡◌, ◌∙◌, sym, ◌+◌, ◌-◌, arith, inl, inr, at, location_of}
 use Rattle.std.proofs.lemmas.Bool.{true≢false}
 use Rattle.proto_names.proofs.Once.{first_kept, first_more, known_split, passed_all, repeats_twice}
 use Rattle.proto_names.proofs.twice.first_twice.Goals as goal
@@ -17,12 +17,12 @@ loop-position-preserved c =
             let twice = repeats_twice os n c.requires (omega arith) (c.is_twice.ensures.0 w.if-is_twice.true) in
             rw w.first-is (first_more passed _ _ (λ l old. old) w.location.result w.lesser.result w.lesser.ensures
             (at os n, twice, sym w.location.ensures)
-            (λ l known. elim (known_split os n l known) [
+            (λ l known. elim (known_split location_of os n l known) [
               | inl old ↦ inl old
               | inr now ↦ inr (w.location.ensures ∙ now.1)
             ]))
         | else-is_twice w ↦ rw w.first-is (first_kept passed _ _ (λ l old. old)
-            (λ l known. elim (known_split os n l known) [
+            (λ l known. elim (known_split location_of os n l known) [
               | inl old ↦ old
               | inr now ↦ absurd (true≢false (sym (c.is_twice.ensures.1 now.0) ∙ w.if-is_twice.false))
             ]))

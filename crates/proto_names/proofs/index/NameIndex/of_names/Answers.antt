@@ -1,4 +1,4 @@
-use Rattle.proto_names.proofs.Common.{◌≡◌, ◌∙◌, ap, arith, refl, map, Contains, IsPermutation, IsPermutation-sym, MatchOption, Option, None, Some, All-contains, Contains-permutation, Occurrence, all_of, table_of, ◌<◌}
+use Rattle.proto_names.proofs.Common.{◌≡◌, ◌∙◌, ap, arith, refl, map, IsPermutation, IsPermutation-sym, MatchOption, Option, None, Some, All-contains, Contains-permutation, Occurrence, all_of, table_of, ◌<◌}
 use Rattle.proto_names.proofs.Tabled.{all_services, all_shares, first_twice_of, in_shares, none_twice}
 use Rattle.proto_names.proofs.index.NameIndex.of_names.Goals as goal
 
