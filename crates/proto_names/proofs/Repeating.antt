@@ -129,5 +129,6 @@ less_precedes a b less = let known = rw (by_number a.spot.kind b.spot.kind) at l
 pub all_precede : (xs : List FileSpot) → IsStrictlySortedBy file_spot_cmp xs → AllPairs Precedes xs
 all_precede [] up = λ i j d before below. absurd (omega (arith, below))
 all_precede (x ∷ xs) up = AllPairs-cons Precedes x xs
-    (All-weaker (λ y. file_spot_cmp x y ≡ Less) (Precedes x) (less_precedes x) xs (All-after_first file_spot_cmp x xs up))
+    (All-weaker (λ y. file_spot_cmp x y ≡ Less) (Precedes x) (less_precedes x) xs
+    (All-after_first file_spot_cmp x xs up))
     (all_precede xs (sorted_tail file_spot_cmp x xs up))

@@ -36,7 +36,7 @@ fn in_order(alloc: Global, entries: Entries) -> Result<KeyedEntries, AllocError>
     KeyedEntries::of_share(alloc, &shared, all)?.sorted(alloc)
 }
 
-/// The occurrences with another one of their name that comes no later. Some stand there more than once.
+/// All occurrences with another one of their name that comes no later, as faults. One may stand there more than once.
 fn repeated_among(alloc: Global, entries: Entries) -> Result<Vec<FileSpot>, AllocError>
     requires { length entries ≤ 1_048_576 }
     ensures { IfOk result (λ spots. (x : FileSpot)
@@ -55,8 +55,8 @@ fn sort_file_spots(spots: &mut Vec<FileSpot>)
     spots.dedup();
 }
 
-/// All occurrences with another one of their name that comes no later, where not both are packages, by file and then by place,
-/// each place once; none where there are more occurrences than the limit of names.
+/// All occurrences with another one of their name that comes no later, where not both are packages: by file and then by
+/// place, each place once. None where there are more occurrences than the limit of names.
 ///
 /// Only memory can be refused, also where files, entries or the bytes of names come to 2^32. It starts no thread.
 pub fn repeated_names(

@@ -117,7 +117,8 @@ fn name_twice(location: Location) -> FileSpot
     }
 }
 
-/// All occurrences with another one of their name that comes no later, of entries in order. Some stand there more than once.
+/// All occurrences with another one of their name that comes no later, of entries in order, as faults. One may stand
+/// there more than once.
 pub(crate) fn all_twice(alloc: Global, names: &Names) -> Result<Vec<FileSpot>, AllocError>
     requires { AreInOrder names.now }
     ensures { IfOk result (λ spots. (x : FileSpot)
