@@ -1,3 +1,7 @@
+pub mod From
+pub mod Joining
 pub mod Naming
 pub mod Placing
+pub mod Spotting
 pub mod Telling
+pub mod Typing
