@@ -13,7 +13,7 @@ use Rattle.proto_desc.specs.declared.name_kind.NameKind.{NameKind}
 use Rattle.proto_desc.specs.declared.options.OptionDescriptor.{OptionDescriptor}
 use Rattle.proto_base.specs.declared.place.Place.{Place}
 use Rattle.proto_types.specs.declared.recalled.Recalled.{Recalled}
-use Rattle.proto_types.proofs.Meanings.{naming_means, not_found, not_message}
+use Rattle.proto_types.proofs.Meanings.{naming_means}
 
 -- what holds of all holds of the one that is found, which passes
 found_one : {X : Type 0} (P : X → Type 0) (test : X → Bool) (xs : List X) (x : X) → All P xs
@@ -26,7 +26,7 @@ module _ (os : List Occurrence) (Seen : ℕ → Type 0) where
   by_kind : (scope text : List ℕ) (place : Place) (wanted : Want)
       (options : List OptionDescriptor) (t : FoundType) (m : Meaning) (what : NameKind) → t.kind ≡ what
       → IsType os Seen (scoped t.scope.now t.name.now) what
-      → Resolves os Seen scope text (scoped t.scope.now t.name.now) t.kind → IsMeaningBy wanted (Some t) place options m
+      → Resolves os Seen scope text (scoped t.scope.now t.name.now) t.kind → IsMeaningBy wanted (Some t) place m
       → IsMeaning os Seen (reference_to scope text place wanted options) m
   by_kind scope text place want.AnyType options t m what same type named is =
       naming_means os Seen (reference_to scope text place want.AnyType options) _ t.kind m named (λ e. cc)
@@ -35,16 +35,14 @@ module _ (os : List Occurrence) (Seen : ℕ → Type 0) where
       naming_means os Seen (reference_to scope text place want.MessageOnly options) _ t.kind m named (λ e. same)
       (is.0 (λ e. same))
   by_kind scope text place want.MessageOnly options t m what same (enumeration seen none) named is =
-      rw (is.1 (λ fits. cc (fits refl)))
-      (not_message os Seen (reference_to scope text place want.MessageOnly options) _ refl (rw same at named))
+      rw (is.1 (λ fits. cc (fits refl))) (inr (refl, (_, rw same at named), refl))
 
   -- what is made of what a name means is what a reference to it means
   pub meaning_by : (scope text : List ℕ) (place : Place) (wanted : Want)
       (options : List OptionDescriptor) (found : Option FoundType) (m : Meaning)
-      → IsFound os Seen scope text found → IsMeaningBy wanted found place options m
+      → IsFound os Seen scope text found → IsMeaningBy wanted found place m
       → IsMeaning os Seen (reference_to scope text place wanted options) m
-  meaning_by scope text place wanted options None m none is =
-      rw is (not_found os Seen (reference_to scope text place wanted options) none)
+  meaning_by scope text place wanted options None m none is = rw is (inl (none, refl))
   meaning_by scope text place wanted options (Some t) m named is =
       by_kind scope text place wanted options t m t.kind refl named.type named is
 

@@ -6,7 +6,6 @@ use Rattle.proto_base.specs.declared.place.Place.{Place}
 use Rattle.proto_desc.specs.DeclaredNames.{scoped}
 use Rattle.proto_desc.specs.declared.name_kind.NameKind.{NameKind}
 use Rattle.proto_desc.specs.declared.name_kind.NameKind.TheVariants as name_kind
-use Rattle.proto_desc.specs.declared.options.OptionDescriptor.{OptionDescriptor}
 use Rattle.proto_names.specs.Occurrences.{Occurrence}
 use Rattle.proto_names.specs.Around.{AreScopes}
 use Rattle.proto_names.specs.Found.{IsFound}
@@ -43,11 +42,11 @@ Remembers one old new = (new ≡ one ∷ []) ⊎ (new ≡ old ++ one ∷ [])
 abbrev pub Fits : Want → NameKind → Type 0
 Fits wanted what = wanted ≡ want.MessageOnly → what ≡ name_kind.Message
 
--- what was found, where such a type is wanted, with these options
-abbrev pub IsMeaningBy : Want → Option FoundType → Place → List OptionDescriptor → Meaning → Type 0
-IsMeaningBy wanted None place options meaning = meaning ≡ Wrong (spot place kind.TypeNotFound)
-IsMeaningBy wanted (Some t) place options meaning =
-    (Fits wanted t.kind → IsNaming (scoped t.scope.now t.name.now) (type_kind_of t.kind) options meaning)
+-- what was found, where such a type is wanted
+abbrev pub IsMeaningBy : Want → Option FoundType → Place → Meaning → Type 0
+IsMeaningBy wanted None place meaning = meaning ≡ Wrong (spot place kind.TypeNotFound)
+IsMeaningBy wanted (Some t) place meaning =
+    (Fits wanted t.kind → IsNaming (scoped t.scope.now t.name.now) (type_kind_of t.kind) meaning)
     × ((Fits wanted t.kind → ⊥) → meaning ≡ Wrong (spot place kind.TypeNotMessage))
 
 -- a scope in a file's package, with those around it that stand in the package, if they are listed, and what is recalled

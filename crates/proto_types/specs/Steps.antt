@@ -1,5 +1,5 @@
 -- Words of private contracts: what a walk over the names of types finds, and what it puts.
-use Rattle.std.specs.Prelude.{◌≡◌, ℕ, Bool, List, [], ◌∷◌, ◌++◌, Option, None, Some, flat_map}
+use Rattle.std.specs.Prelude.{◌≡◌, ◌⊎◌, ◌↔◌, ℕ, Bool, List, [], ◌∷◌, ◌++◌, Contains, flat_map}
 use Rattle.std.specs.List.{AllZip}
 use Rattle.proto_base.specs.declared.kind.Kind.TheVariants as kind
 use Rattle.proto_desc.specs.declared.name_kind.NameKind.{NameKind}
@@ -7,14 +7,14 @@ use Rattle.proto_desc.specs.declared.name_kind.NameKind.TheVariants as name_kind
 use Rattle.proto_desc.specs.declared.options.OptionDescriptor.{OptionDescriptor}
 use Rattle.proto_desc.specs.declared.type_name.TypeKind.{TypeKind}
 use Rattle.proto_desc.specs.declared.type_name.TypeKind.TheVariants as type_kind
-use Rattle.proto_base.specs.Least.{IsLeast, spot}
-use Rattle.proto_base.specs.Lesser.{IsLesser}
-use Rattle.proto_base.specs.Sets.{Each}
+use Rattle.proto_base.specs.Least.{spot}
+use Rattle.proto_base.specs.Sets.{Each, Gains, Where}
 use Rattle.proto_base.specs.declared.spot.Spot.{Spot}
 use Rattle.proto_names.specs.Occurrences.{Occurrence}
 use Rattle.proto_names.specs.Resolution.{SeenBy}
 use Rattle.proto_names.specs.SeenAlike.{IsSeen}
-use Rattle.proto_types.specs.References.{Reference, IsPacked, ReferenceBreaks}
+use Rattle.proto_names.specs.declared.resolve.Want.TheVariants as want
+use Rattle.proto_types.specs.References.{Reference, IsPacked, ReferenceBreaks, TypeNotFound, TypeNotMessage}
 use Rattle.proto_types.specs.Sight.{Sight}
 use Rattle.proto_types.specs.Typed.{Means}
 use Rattle.proto_types.specs.declared.found.Found.{Found}
@@ -39,33 +39,33 @@ type_kind_of name_kind.Method = type_kind.Enum
 
 -- an option that a field of a message's type may not have
 abbrev pub SetsPacked : OptionDescriptor → Spot → Type 0
-SetsPacked o x = IsPacked o × (x ≡ spot o.place kind.PackedOnMessage)
+SetsPacked o = Where (IsPacked o) (spot o.place kind.PackedOnMessage)
 
 -- what is wrong with the options of a field whose type is of this kind
-abbrev pub IsPackedFault : TypeKind → List OptionDescriptor → Option Spot → Type 0
-IsPackedFault type_kind.Message options fault = IsLeast (Each options SetsPacked) fault
-IsPackedFault type_kind.Enum options fault = fault ≡ None
+abbrev pub OptionsBreak : TypeKind → List OptionDescriptor → Spot → Type 0
+OptionsBreak type_kind.Message options = Each options SetsPacked
+OptionsBreak type_kind.Enum options = λ x. ⊥
 
--- what a full name of a type of this kind is found to be, as the type of a field with these options
-abbrev pub IsNaming : List ℕ → TypeKind → List OptionDescriptor → Meaning → Type 0
-IsNaming full what options (Named t) =
-    IsPackedFault what options None × (t.full_name ≡ 46 ∷ full) × (t.kind ≡ what)
-IsNaming full what options (Wrong x) = IsPackedFault what options (Some x)
+-- what a full name of a type of this kind is found to be
+abbrev pub IsNaming : List ℕ → TypeKind → Meaning → Type 0
+IsNaming full what (Named t) = (t.full_name ≡ 46 ∷ full) × (t.kind ≡ what)
+IsNaming full what (Wrong x) = ⊥
 
--- what one reference is found to be
+-- what one reference is found to be, whatever its options
 abbrev pub IsMeaning : List Occurrence → (ℕ → Type 0) → Reference → Meaning → Type 0
-IsMeaning os Seen r (Named t) = IsLeast (ReferenceBreaks os Seen r) None × Means os Seen r t
-IsMeaning os Seen r (Wrong x) = IsLeast (ReferenceBreaks os Seen r) (Some x)
+IsMeaning os Seen r (Named t) = Means os Seen r t × (r.wanted ≡ want.MessageOnly → t.kind ≡ type_kind.Message)
+IsMeaning os Seen r (Wrong x) = TypeNotFound os Seen r x ⊎ TypeNotMessage os Seen r x
 
--- one more meaning
-abbrev pub Adds : Meaning → Found → Found → Type 0
-Adds (Named t) old new = (new.types.items ≡ old.types.items ++ t ∷ []) × (new.fault ≡ old.fault)
-Adds (Wrong x) old new = IsLesser old.fault (Some x) new.fault
+-- one more meaning, as the type of a field with these options
+abbrev pub Adds : Meaning → List OptionDescriptor → Found → Found → Type 0
+Adds (Named t) options old new = (new.types.items ≡ old.types.items ++ t ∷ [])
+    × Gains (OptionsBreak t.kind options) old.faults.items new.faults.items
+Adds (Wrong x) options old new = Gains (λ y. y ≡ x) old.faults.items new.faults.items
 
--- what is found of some references: the least of their faults, and where there is none, what they mean
+-- what is found of some references: their faults, and where there are none, what they mean
 pub record AreFound (os : List Occurrence) (Seen : ℕ → Type 0) (rs : List Reference) (found : Found) : Type 0 where
-  pub least : IsLeast (Each rs (ReferenceBreaks os Seen)) found.fault
-  pub means : found.fault ≡ None → AllZip (Means os Seen) rs found.types.items
+  pub faults : (x : Spot) → Contains found.faults.items x ↔ Each rs (ReferenceBreaks os Seen) x
+  pub means : ((x : Spot) → Each rs (ReferenceBreaks os Seen) x → ⊥) → AllZip (Means os Seen) rs found.types.items
 
 -- some more references are found
 abbrev pub Finds : List Occurrence → (ℕ → Type 0) → List Reference → Found → Found → Type 0

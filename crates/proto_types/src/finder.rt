@@ -1,8 +1,8 @@
-//! The walk over a descriptor that finds what its names of types mean. It goes on behind a fault, so that the first one by
-//! place is found.
+//! The walk over a descriptor that finds what its names of types mean. It goes on behind a fault: all are found.
 
-ghost use Rattle.std.specs.Prelude.{◌≡◌, flat_map, if◌then◌else◌, IfOk, OnOk};
+ghost use Rattle.std.specs.Prelude.{◌≡◌, List, flat_map, if◌then◌else◌, IfOk, OnOk};
 ghost use Rattle.proto_desc.specs.DeclaredNames.{file_scope};
+ghost use Rattle.proto_desc.specs.declared.options.OptionDescriptor.{OptionDescriptor};
 ghost use Rattle.proto_names.specs.Scopes.{IsCandidate};
 ghost use Rattle.proto_types.specs.References.{reference_to, references_of_type, references_of_field, references_by_message, references_of_method, references_of_service, references};
 ghost use Rattle.proto_types.specs.Recalling.{IsFoundInFile, IsMeaningBy, IsSpelling};
@@ -24,21 +24,18 @@ use proto_desc::type_name::TypeReference;
 use proto_names::{FoundType, Scopes, Want, name_in};
 use std::alloc::{AllocError, Global};
 
-/// What a name means of which this was found, where such a type is wanted, with these options.
+/// What a name means of which this was found, where such a type is wanted.
 fn meaning_by(
     alloc: Global,
     known: &mut KnownScopes,
     found: Option<FoundType>,
     place: Place,
     want: Want,
-    options: &[OptionDescriptor],
 ) -> Result<Meaning, AllocError>
-    ensures { IfOk result (IsMeaningBy want found.entry place options.now) }
+    ensures { IfOk result (IsMeaningBy want found.entry place) }
 {
     let kind = match found {
-        Some(found) if want.allows(found.kind) => {
-            return meaning_of(alloc, known, found, options);
-        }
+        Some(found) if want.allows(found.kind) => return meaning_of(alloc, known, found),
         Some(_) => Kind::TypeNotMessage,
         None => Kind::TypeNotFound,
     };
@@ -103,29 +100,29 @@ impl<'i, 'd> Finder<'i, 'd> {
         }
     }
 
-    /// What a name means in a scope, where such a type is wanted, with these options.
+    /// What a name means in a scope, where such a type is wanted.
     fn meaning<'n>(
         &mut self,
         inner: &mut Spelling<'n>,
         text: &'d str,
         place: Place,
         want: Want,
-        options: &[OptionDescriptor],
     ) -> Result<Meaning, AllocError>
     where
         'd: 'n,
         requires { IsSpelling self.old.names inner.old }
         ensures same { self.new.names ≡ self.old.names }
         ensures scope { inner.new.scope.now ≡ inner.old.scope.now }
-        ensures meaning { IfOk result (MeansIn self.old.names
-            (reference_to inner.old.scope.now text.now place want options.now)) }
+        ensures meaning { IfOk result (λ m. (options : List OptionDescriptor)
+            → MeansIn self.old.names
+            (reference_to inner.old.scope.now text.now place want options) m) }
         ensures ready { OnOk result (IsSpelling self.old.names inner.new) }
     {
         if let Some(one) = recalled_as(&inner.recalled, text) {
-            return meaning_by(self.alloc, &mut self.known, one.found, place, want, options);
+            return meaning_by(self.alloc, &mut self.known, one.found, place, want);
         }
         let found = self.find(inner, text)?;
-        let meaning = meaning_by(self.alloc, &mut self.known, found, place, want, options)?;
+        let meaning = meaning_by(self.alloc, &mut self.known, found, place, want)?;
         let one = Recalled {
             spelled: text,
             found,
@@ -154,7 +151,8 @@ impl<'i, 'd> Finder<'i, 'd> {
     {
         match reference {
             TypeReference::Spelled { text, place } => {
-                found.add(self.meaning(inner, text.as_str(), *place, want, options)?)
+                let meaning = self.meaning(inner, text.as_str(), *place, want)?;
+                found.add(meaning, options)
             }
             TypeReference::Resolved { .. } => Ok(()),
         }

@@ -13,4 +13,4 @@ mod recalled;
 mod typing;
 
 pub use meaning::NamedType;
-pub use typing::{fill_types, resolve_types, typing_is_unique};
+pub use typing::{fill_types, resolve_types, type_faults, typing_is_unique};

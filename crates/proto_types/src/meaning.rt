@@ -1,14 +1,13 @@
 //! What one name of a type means, or what is wrong with it.
 
-ghost use Rattle.std.specs.Prelude.{◌≡◌, ◌↔◌, IsTrue, ◌∷◌, IfOk};
+ghost use Rattle.std.specs.Prelude.{◌≡◌, ◌↔◌, IsTrue, ◌∷◌, IfOk, OnOk};
 ghost use Rattle.proto_desc.specs.DeclaredNames.{scoped};
-ghost use Rattle.proto_base.specs.Least.{IsLeast};
-ghost use Rattle.proto_base.specs.Sets.{Each};
+ghost use Rattle.proto_base.specs.Sets.{Each, Gains};
 ghost use Rattle.proto_types.specs.References.{IsPacked};
-ghost use Rattle.proto_types.specs.Steps.{type_kind_of, SetsPacked, IsNaming};
+ghost use Rattle.proto_types.specs.Steps.{type_kind_of, SetsPacked, OptionsBreak, IsNaming};
 
 use crate::known_scopes::KnownScopes;
-use proto_base::{Kind, Spot, lesser};
+use proto_base::{Kind, Spot};
 use proto_desc::absolute_name::AbsoluteName;
 use proto_desc::name_kind::NameKind;
 use proto_desc::options::{OptionDescriptor, OptionValue};
@@ -28,7 +27,7 @@ pub struct NamedType {
 #[derive(Drop)]
 pub(crate) enum Meaning {
     Named(NamedType),
-    /// The first thing that is wrong with it.
+    /// No type, or not one that is wanted.
     Wrong(Spot),
 }
 
@@ -52,29 +51,33 @@ fn is_packed(option: &OptionDescriptor) -> bool
     option.number == PACKED && matches!(option.value, OptionValue::Number(1))
 }
 
-/// An option that sets `packed`, as a fault.
-fn option_fault(option: &OptionDescriptor) -> Option<Spot>
-    ensures { IsLeast (SetsPacked option.now) result }
+/// Puts the options that set `packed`, as faults.
+fn put_packed(faults: &mut Vec<Spot>, options: &[OptionDescriptor]) -> Result<(), AllocError>
+    ensures { OnOk result (Gains (Each options.now SetsPacked) faults.old.items faults.new.items) }
 {
-    if is_packed(option) {
-        Some(Spot {
-            place: option.place,
-            kind: Kind::PackedOnMessage,
-        })
-    } else {
-        None
+    for option in options {
+        if is_packed(option) {
+            let place = option.place;
+            let kind = Kind::PackedOnMessage;
+            faults.push(Spot { place, kind })?;
+        }
     }
+    Ok(())
 }
 
-/// The first option that sets `packed`, as a fault.
-fn packed_fault(options: &[OptionDescriptor]) -> Option<Spot>
-    ensures { IsLeast (Each options.now SetsPacked) result }
+/// Puts what is wrong with the options of a field whose type is of this kind.
+pub(crate) fn put_option_faults(
+    faults: &mut Vec<Spot>,
+    kind: TypeKind,
+    options: &[OptionDescriptor],
+) -> Result<(), AllocError>
+    ensures { OnOk result (Gains (OptionsBreak kind options.now)
+        faults.old.items faults.new.items) }
 {
-    let mut first = None;
-    for option in options {
-        first = lesser(first, option_fault(option));
+    match kind {
+        TypeKind::Message => put_packed(faults, options),
+        TypeKind::Enum => Ok(()),
     }
-    first
 }
 
 /// The full name of a name in a scope, behind a leading dot.
@@ -91,26 +94,16 @@ fn absolute(
     Ok(AbsoluteName::new(known.shared(scope)?, name))
 }
 
-/// What a name was found to be, as the type of a field with these options.
+/// The type that a name was found to be.
 pub(crate) fn meaning_of(
     alloc: Global,
     known: &mut KnownScopes,
     found: FoundType,
-    options: &[OptionDescriptor],
 ) -> Result<Meaning, AllocError>
     ensures { IfOk result (IsNaming (scoped found.entry.scope.now found.entry.name.now)
-        (type_kind_of found.entry.kind) options.now) }
+        (type_kind_of found.entry.kind)) }
 {
     let kind = type_kind(found.kind);
-    let fault = match kind {
-        TypeKind::Message => packed_fault(options),
-        TypeKind::Enum => None,
-    };
-    match fault {
-        Some(fault) => Ok(Meaning::Wrong(fault)),
-        None => Ok(Meaning::Named(NamedType {
-            full_name: absolute(alloc, known, found.scope, found.name)?,
-            kind,
-        })),
-    }
+    let full_name = absolute(alloc, known, found.scope, found.name)?;
+    Ok(Meaning::Named(NamedType { full_name, kind }))
 }

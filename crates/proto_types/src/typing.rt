@@ -1,9 +1,9 @@
 //! Resolving the names of types in a file.
 
-ghost use Rattle.std.specs.Prelude.{◌≡◌, ℕ, ◌<◌, List, Bool, IfErr, IfOk, OnOk, Some, true};
+ghost use Rattle.std.specs.Prelude.{◌≡◌, ◌↔◌, ℕ, ◌<◌, List, AllPairs, Bool, Contains, IfErr, IfOk, OnOk, Some, true};
 ghost use Rattle.std.specs.List.{AllZip};
 ghost use Rattle.proto_base.specs.FileFaults.{TellsFirst};
-ghost use Rattle.proto_base.specs.Least.{IsLeast};
+ghost use Rattle.proto_base.specs.Least.{IsLeast, Precedes};
 ghost use Rattle.proto_base.specs.declared.spot.Spot.{Spot};
 ghost use Rattle.proto_desc.specs.Resolved.{file_resolved};
 ghost use Rattle.proto_desc.specs.declared.file.FileDesc.{FileDesc};
@@ -12,6 +12,7 @@ ghost use Rattle.proto_names.specs.Occurrences.{Occurrence};
 ghost use Rattle.proto_names.specs.Resolution.{SeenBy};
 ghost use Rattle.proto_names.specs.SeenAlike.{AreSeenAlike, IsSeen};
 ghost use Rattle.proto_types.specs.References.{TypesBreak, references};
+ghost use Rattle.proto_types.specs.Steps.{Finds};
 ghost use Rattle.proto_types.specs.Typed.{IsTypedFile, Means};
 
 use crate::filling::fill_file;
@@ -20,13 +21,13 @@ use crate::found::Found;
 use crate::known_scopes::KnownScopes;
 use crate::meaning::NamedType;
 use crate::names::FileNames;
-use proto_base::{FileError, ONLY_STEP};
+use proto_base::{FileError, ONLY_STEP, Spot, sort_spots};
 use proto_desc::file::FileDesc;
 use proto_desc::message::MessageDesc;
 use proto_desc::service::ServiceDesc;
 use proto_links::{FileId, Links};
 use proto_names::NameIndex;
-use std::alloc::Global;
+use std::alloc::{AllocError, Global};
 use std::collections::VecDeque;
 
 /// How many fields messages have, with those of the messages inside them.
@@ -47,6 +48,33 @@ fn count_methods(services: &[ServiceDesc]) -> usize {
         count = count.saturating_add(service.methods.len());
     }
     count
+}
+
+/// Finds what the names of types that a file spells mean, and what is wrong with them, among the names that it sees.
+fn find_types(
+    alloc: Global,
+    index: &NameIndex,
+    links: &Links,
+    file: FileId,
+    desc: &FileDesc,
+    found: &mut Found,
+) -> Result<(), AllocError>
+    requires links { count_of links.now ≡ index.now.files }
+    requires file { file < index.now.files }
+    ensures { OnOk result (Finds index.now.occurrences (SeenBy links.now file) (references desc.now)
+        found.old found.new) }
+{
+    let count = count_fields(desc.messages.as_slice()).saturating_add(count_methods(
+        desc.services.as_slice(),
+    ));
+    let names = FileNames::new(alloc, index, links, file, desc.scope(), count)?;
+    let known = KnownScopes::new(alloc);
+    let mut finder = Finder {
+        alloc,
+        names,
+        known,
+    };
+    finder.file(desc, found)
 }
 
 /// What each name of a type that a file spells means, in the order in which the file names them, among the names that the
@@ -71,22 +99,34 @@ pub fn resolve_types(
         × IsLeast (TypesBreak index.now.occurrences (SeenBy links.now file) desc.now)
         (Some f.spot))) }
 {
-    let count = count_fields(desc.messages.as_slice()).saturating_add(count_methods(
-        desc.services.as_slice(),
-    ));
-    let names = FileNames::new(alloc, index, links, file, desc.scope(), count)?;
-    let known = KnownScopes::new(alloc);
-    let mut finder = Finder {
-        alloc,
-        names,
-        known,
-    };
     let mut found = Found::new(alloc);
-    finder.file(desc, &mut found)?;
-    match found.fault {
+    find_types(alloc, index, links, file, desc, &mut found)?;
+    sort_spots(&mut found.faults);
+    match found.faults.first() {
         None => Ok(found.types),
-        Some(fault) => Err(FileError::at(ONLY_STEP, fault)),
+        Some(fault) => Err(FileError::at(ONLY_STEP, *fault)),
     }
+}
+
+/// All faults of a file's types: by place, then by the number of the kind, each once. `resolve_types` tells the first
+/// of them. Only memory can be refused.
+pub fn type_faults(
+    alloc: Global,
+    index: &NameIndex,
+    links: &Links,
+    file: FileId,
+    desc: &FileDesc,
+) -> Result<Vec<Spot>, AllocError>
+    requires links { count_of links.now ≡ index.now.files }
+    requires file { file < index.now.files }
+    ensures all { IfOk result (λ faults. (x : Spot) → Contains faults.items x
+        ↔ TypesBreak index.now.occurrences (SeenBy links.now file) desc.now x) }
+    ensures order { IfOk result (λ faults. AllPairs Precedes faults.items) }
+{
+    let mut found = Found::new(alloc);
+    find_types(alloc, index, links, file, desc, &mut found)?;
+    sort_spots(&mut found.faults);
+    Ok(found.faults)
 }
 
 /// Puts what a file's names of types mean in their place, and leaves all else as it is. It takes no memory.

@@ -8,10 +8,12 @@ returns-in-Some-clause-meaning c =
     let is = rw c.deref.ensures.value at (sym c.in-Some.ensures) in
     let named = recalled_type _ _ inner.scope.now c.args.text.now inner.recalled.items c.in-Some.one.now
     c.requires.recalled is in
-    IfOk-weaker c.meaning_by.result _ _ (λ m by. meaning_by _ _ _ _ _ _ _ _ m named by) c.meaning_by.ensures
+    IfOk-weaker c.meaning_by.result _ _ (λ m by options. meaning_by _ _ _ _ _ _ options _ m named by)
+    c.meaning_by.ensures
 
 pub returns-clause-meaning : goal.returns-clause-meaning
-returns-clause-meaning c = meaning_by _ _ _ _ _ _ _ _ _ c.in_ok-found.ensures.found c.in_ok-meaning.ensures
+returns-clause-meaning c options =
+    meaning_by _ _ _ _ _ _ options _ _ c.in_ok-found.ensures.found c.in_ok-meaning.ensures
 
 pub returns-clause-ready : goal.returns-clause-ready
 returns-clause-ready c =
