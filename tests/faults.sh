@@ -70,7 +70,10 @@ awk -v folder="$folder" '
     line == "" { blank = 1; next }
     { if (blank) print "" > entry; blank = 0; print line > entry }
 ' docs/FAULTS.md
-docs/explanations | cmp - crates/schema_explanation/src/table.rt || fail 'the table is not what docs/explanations writes'
+for written in table:src/table.rt specs:specs/Table.antt answers:proofs/table/text_of_kind/Answers.antt; do
+    docs/explanations "${written%%:*}" | cmp - "crates/schema_explanation/${written#*:}" ||
+        fail "${written#*:} is not what docs/explanations writes"
+done
 "$program" explain >"$folder/kinds" || fail "explain: status $?"
 cut -c 1-20 "$folder/kinds" | sed 's/ *$//' | diff <(sed -n 's/^### //p' docs/FAULTS.md) - || fail 'explain lists other entries than the page'
 while IFS= read -r listed; do

@@ -14,6 +14,8 @@ use Rattle.proto_compile.specs.Sources.{name_of, text_of}
 use Rattle.proto_compile.specs.declared.source.Source.{Source}
 use Rattle.schema_compile.specs.Compiled.{IsCompiledTo}
 use Rattle.schema_compile.specs.Told.{IsToldOf, IsToldOfFolder}
+use Rattle.schema_explanation.specs.Page.{page_of}
+use Rattle.schema_explanation.specs.declared.topic.Topic.{Topic}
 use Rattle.schema_failure.specs.Faults.{IsOfDevice, of_exchange}
 use Rattle.schema_failure.specs.declared.failure.Device.TheVariants as device
 use Rattle.schema_failure.specs.declared.failure.Failure.{Failure}
@@ -108,9 +110,7 @@ IsAnswerRun known = IsAnswerOver (λ limits c. IsCompiledTo limits known c) (λ 
 abbrev pub IsSetAnswerRun : {A : Type 0} → List ℕ → Mode → Reads → Reads → Writes → Writes → Result A Failure → Type 0
 IsSetAnswerRun path = IsAnswerOver IsOfSomeSet (λ limits f. IsToldOfSet limits path f)
 
--- `explain`: some text is written whole, and no call fails; or one does; or memory was short, and nothing is written
-abbrev pub IsExplainRun : {A : Type 0} → Writes → Writes → Result A Failure → Type 0
-IsExplainRun writes writes' (Ok a) = (text : List ℕ) × IsWritten writes writes' text
-IsExplainRun writes writes' (Err f) =
-    ((f ≡ failure.NoMemory) × (writes' ≡ writes))
-    ⊎ (IsOfDevice device.Output f × (text : List ℕ) × (written : ℕ) × IsWrittenInPart writes writes' text written)
+-- `explain`: what is said of the topic, or of all, is written; or memory was short, and nothing is
+abbrev pub IsExplainRun : {A : Type 0} → Option Topic → Writes → Writes → Result A Failure → Type 0
+IsExplainRun topic writes writes' done =
+    IsErrAnd done (λ f. (f ≡ failure.NoMemory) × (writes' ≡ writes)) ⊎ IsOutput writes writes' (page_of topic) done

@@ -6,7 +6,7 @@ ghost use Rattle.schema_commands.specs.Runs.{IsAnswerRun, IsCompileRun, IsDescri
 ghost use Rattle.schema_compile.specs.Told.{IsToldOf};
 
 use crate::dependencies::{SetFiles, rule_of};
-use crate::set_writing::{Chunk, SetWriter};
+use crate::set_writing::{Chunk, SetWriter, write_part};
 use crate::whole_file::{write_rule, write_whole};
 use counted_io::{CountedRead, CountedWrite, read_bytes, write_bytes};
 use grpcweb_core::{Mode, answer_io};
@@ -14,15 +14,14 @@ use proto_base::{Limit, Limits};
 use proto_compilation::Compiled;
 use proto_compile::{Leftovers, Source};
 use schema_compile::{compile_folder, compile_texts, told};
-use schema_explanation::{Topic, topics};
+use schema_explanation::{Topic, explanation};
 use schema_failure::Failure;
 use schema_headline::describe;
 use schema_set::compiled_set;
 use schema_sources::{SourceFolder, read_sources};
 use share_work::{NoGate, Plan};
 use source_folder::NamedText;
-use std::alloc::{AllocError, AllocGlobal, Global};
-use std::fmt::Write;
+use std::alloc::{AllocGlobal, Global};
 use std::mem::forget;
 use std::random::RandomSource;
 use std::rt::Files;
@@ -216,18 +215,6 @@ where
     answer_over(rt, compiled, plan, mode, reader, writer)
 }
 
-/// What `explain` prints: all that is said of a topic, or a line for each topic.
-fn explanation(alloc: Global, topic: Option<Topic>) -> Result<String, AllocError> {
-    if let Some(topic) = topic {
-        return format!(in alloc; "{}\n\n{}\n", topic.name(), topic.text());
-    }
-    let mut lines = String::new(alloc);
-    for topic in topics() {
-        writeln!(lines, "{:<20}{}", topic.name(), topic.meaning())?;
-    }
-    Ok(lines)
-}
-
 /// Explains a kind of fault or another line, or lists all.
 pub fn run_explain<O: CountedWrite>(
     alloc: Global,
@@ -235,9 +222,8 @@ pub fn run_explain<O: CountedWrite>(
     writer: &mut O,
 ) -> Result<(), Failure>
     requires { (O.writes writer.old).failures < 2 ^ 64 - 1 }
-    ensures { IsExplainRun (O.writes writer.old) (O.writes writer.new) result }
+    ensures { IsExplainRun topic (O.writes writer.old) (O.writes writer.new) result }
 {
-    let text = explanation(alloc, topic)?;
-    write_bytes(writer, text.as_bytes())?;
-    Ok(())
+    let page = explanation(alloc, topic)?;
+    write_part(page.as_bytes(), writer)
 }

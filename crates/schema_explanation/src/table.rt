@@ -1,5 +1,8 @@
 //! What is said of each topic. docs/explanations writes this file from docs/FAULTS.md.
 
+ghost use Rattle.std.specs.Prelude.{◌≡◌};
+ghost use Rattle.schema_explanation.specs.Table.{text_of, text_of_kind};
+
 use crate::topic::Topic;
 use proto_base::Kind;
 
@@ -64,11 +67,12 @@ pub(crate) static TOPICS: [Topic; 57] = [
     Topic::Memory,
 ];
 
-/// What is said of a topic: its first line says what it means, its last how it is cured.
-pub(crate) fn text_of(topic: Topic) -> &'static str {
-    match topic {
-        Topic::Kind(Kind::TooManyFiles) =>
-            "There are more than 16,384 files below the root, or in the set.
+/// What is said of a kind.
+fn text_of_kind(kind: Kind) -> &'static str
+    ensures { result.now ≡ text_of_kind kind }
+{
+    match kind {
+        Kind::TooManyFiles => "There are more than 16,384 files below the root, or in the set.
 
 Where: no file, and line 1, column 1.
 
@@ -77,13 +81,13 @@ Where: no file, and line 1, column 1.
     :1:1: TooManyFiles
 
 Cure: Compile a folder further below.",
-        Topic::Kind(Kind::FileNameTwice) =>
+        Kind::FileNameTwice =>
             "Two sources have one name, or two files of a set. A folder has no two such files: it is met only where sources come from elsewhere, and where two sets were joined.
 
 Where: the start of the file.
 
 Cure: Give each source a name of its own. Make one set of all sources, in place of joining two.",
-        Topic::Kind(Kind::NotUtf8) =>
+        Kind::NotUtf8 =>
             r#"The file holds bytes that are no UTF-8, at the first byte that belongs to no whole character. Comments and strings count.
 
 Where: that byte.
@@ -93,7 +97,7 @@ Where: that byte.
     a.proto:2:7: NotUtf8
 
 Cure: Save the file as UTF-8 (`iconv -f latin1 -t utf-8`)."#,
-        Topic::Kind(Kind::BadByte) =>
+        Kind::BadByte =>
             r#"A byte outside comments and strings that begins no token: a control character, or one beyond ASCII.
 
 Where: that byte.
@@ -104,7 +108,7 @@ Where: that byte.
     a.proto:2:9: BadByte
 
 Cure: Names are ASCII letters, digits and `_`. An invisible character, such as a no-break space, is often what stands there."#,
-        Topic::Kind(Kind::BadNumber) =>
+        Kind::BadNumber =>
             r#"No digit follows `0x`, or a letter, a digit, `_` or `.` follows a number directly. Floating-point numbers are no tokens here.
 
 Where: the number's first digit.
@@ -115,7 +119,7 @@ Where: the number's first digit.
     a.proto:2:23: BadNumber
 
 Cure: A number that begins with 0 is octal: write `8`. A default or an option with a floating-point value is not part of this language."#,
-        Topic::Kind(Kind::NumberTooBig) => r#"A number is over 18,446,744,073,709,551,615.
+        Kind::NumberTooBig => r#"A number is over 18,446,744,073,709,551,615.
 
 Where: the number's first digit.
 
@@ -125,7 +129,7 @@ Where: the number's first digit.
     a.proto:2:23: NumberTooBig
 
 Cure: Field numbers go to 536,870,911, enum numbers to 2,147,483,647."#,
-        Topic::Kind(Kind::BadEscape) =>
+        Kind::BadEscape =>
             r#"A backslash in a string that begins no escape, or whose digits are missing or name no character.
 
 Where: the backslash, or the opening quote where each escape is one and the value of the whole string is no UTF-8.
@@ -136,7 +140,7 @@ Where: the backslash, or the opening quote where each escape is one and the valu
     a.proto:2:25: BadEscape
 
 Cure: Write `\\` for a backslash. The escapes are those of the specification; a pair of surrogates is not taken as one character."#,
-        Topic::Kind(Kind::UnclosedString) =>
+        Kind::UnclosedString =>
             r#"A string ends at the end of its line or of the file, without its quote.
 
 Where: its opening quote.
@@ -147,7 +151,7 @@ Where: its opening quote.
     a.proto:2:23: UnclosedString
 
 Cure: Close the quote on the same line. Adjacent strings join, so a long text can stand on several lines."#,
-        Topic::Kind(Kind::UnclosedComment) => r#"A comment that `/*` begins has no `*/`.
+        Kind::UnclosedComment => r#"A comment that `/*` begins has no `*/`.
 
 Where: its `/`.
 
@@ -157,7 +161,7 @@ Where: its `/`.
     a.proto:2:1: UnclosedComment
 
 Cure: Close it. Comments do not nest: the first `*/` ends one."#,
-        Topic::Kind(Kind::FileTooLong) => r#"The file has more than 4,194,304 bytes.
+        Kind::FileTooLong => r#"The file has more than 4,194,304 bytes.
 
 Where: the start of the file.
 
@@ -166,7 +170,7 @@ Where: the start of the file.
     a.proto:1:1: FileTooLong
 
 Cure: Split the file."#,
-        Topic::Kind(Kind::Unexpected) => r#"This token cannot stand here.
+        Kind::Unexpected => r#"This token cannot stand here.
 
 Where: that token.
 
@@ -176,7 +180,7 @@ Where: that token.
     a.proto:2:21: Unexpected
 
 Cure: Look at what stands before it: most often a `;`, a `=` or a type is missing. Where it is the first of the file, `syntax = "proto3";` is missing, or `edition` stands for it. A map has no label, and its key is an integer, a `bool` or a `string`. A member of a oneof has no label, and is no map. In a method the word is `returns`, not `return`."#,
-        Topic::Kind(Kind::CustomOption) =>
+        Kind::CustomOption =>
             r#"An option's name begins with `(`: an option that somebody declared with `extend`. Custom options are left out of this language.
 
 Where: the `(`.
@@ -187,7 +191,7 @@ Where: the `(`.
     a.proto:2:20: CustomOption
 
 Cure: `--skip-custom-options` compiles the sources as if such options were not there. With them, protoc or buf compile the sources, and `--set` serves what these write."#,
-        Topic::Kind(Kind::LeftOut) =>
+        Kind::LeftOut =>
             r#"A word of proto2 or of editions where it would begin a statement: `extend`, `extensions`, `group`, `required`, `weak`.
 
 Where: that word.
@@ -198,7 +202,7 @@ Where: that word.
     a.proto:2:13: LeftOut
 
 Cure: `--skip-custom-options` compiles the sources as if `extend`, and `weak` after `import`, were not there. Leave out `required`; turn a `group` into a message and a field. `extensions` is of proto2, whose files are for protoc; `--set` serves what it writes."#,
-        Topic::Kind(Kind::TooDeep) => r#"Messages stand in one another more than 64 deep.
+        Kind::TooDeep => r#"Messages stand in one another more than 64 deep.
 
 Where: the first token too deep.
 
@@ -207,7 +211,7 @@ Where: the first token too deep.
     a.proto:2:705: TooDeep
 
 Cure: Move inner messages to the top, and name them from there."#,
-        Topic::Kind(Kind::UnexpectedEnd) => r#"The file ends in the middle of a statement.
+        Kind::UnexpectedEnd => r#"The file ends in the middle of a statement.
 
 Where: after the last byte.
 
@@ -217,7 +221,7 @@ Where: after the last byte.
     a.proto:3:1: UnexpectedEnd
 
 Cure: Close the last brace, or end the last statement with `;`."#,
-        Topic::Kind(Kind::NotProto3Syntax) => r#"The file names another syntax than proto3.
+        Kind::NotProto3Syntax => r#"The file names another syntax than proto3.
 
 Where: the syntax's string.
 
@@ -226,7 +230,7 @@ Where: the syntax's string.
     a.proto:1:10: NotProto3Syntax
 
 Cure: Write `syntax = "proto3";`, and mend what proto3 has no longer; or leave the file to protoc."#,
-        Topic::Kind(Kind::PackageTwice) => r#"There is a second package statement.
+        Kind::PackageTwice => r#"There is a second package statement.
 
 Where: the second `package`.
 
@@ -236,7 +240,7 @@ Where: the second `package`.
     a.proto:2:12: PackageTwice
 
 Cure: A file has one package."#,
-        Topic::Kind(Kind::ImportTwice) => r#"An import that an earlier one equals.
+        Kind::ImportTwice => r#"An import that an earlier one equals.
 
 Where: the later import's string.
 
@@ -246,7 +250,7 @@ Where: the later import's string.
     a.proto:2:20: ImportTwice
 
 Cure: Leave one of them out."#,
-        Topic::Kind(Kind::UnknownOption) =>
+        Kind::UnknownOption =>
             r#"The element may not have an option of this name. The options of each element are listed in docs/LANGUAGE.md.
 
 Where: the first token of the option's name.
@@ -257,7 +261,7 @@ Where: the first token of the option's name.
     a.proto:2:8: UnknownOption
 
 Cure: Look for a spelling mistake. `default` is of proto2: in proto3 a field that is not set has 0, false, or nothing in it. Of descriptor.proto's options twelve are not in the list, as `lazy` and `cc_generic_services`: `--skip-custom-options` compiles the sources as if they were not there, and `--set` serves what protoc writes."#,
-        Topic::Kind(Kind::OptionTwice) => r#"The element set this option before.
+        Kind::OptionTwice => r#"The element set this option before.
 
 Where: the first token of the option's name.
 
@@ -267,7 +271,7 @@ Where: the first token of the option's name.
     a.proto:2:34: OptionTwice
 
 Cure: Leave one of them out."#,
-        Topic::Kind(Kind::BadOptionValue) =>
+        Kind::BadOptionValue =>
             r#"The option takes a value of another kind: a string, a number, `true` or `false`, or one of its words.
 
 Where: the first token of the value.
@@ -278,7 +282,7 @@ Where: the first token of the value.
     a.proto:2:21: BadOptionValue
 
 Cure: Look the option up in docs/LANGUAGE.md."#,
-        Topic::Kind(Kind::FieldNumberRange) =>
+        Kind::FieldNumberRange =>
             r#"A field number or a bound of a reserved range that is not 1 to 536,870,911. Or a field number from 19,000 to 19,999: these are kept for implementations.
 
 Where: the number.
@@ -289,7 +293,7 @@ Where: the number.
     a.proto:2:23: FieldNumberRange
 
 Cure: Take another number."#,
-        Topic::Kind(Kind::FieldNumberTwice) =>
+        Kind::FieldNumberTwice =>
             r#"An earlier field of the message has this number. Members of oneofs are fields of the message.
 
 Where: the later field's number.
@@ -300,8 +304,7 @@ Where: the later field's number.
     a.proto:2:36: FieldNumberTwice
 
 Cure: Give the new field a number that none had before."#,
-        Topic::Kind(Kind::ReservedNumberUsed) =>
-            r#"The number of a field or of an enum's value is reserved.
+        Kind::ReservedNumberUsed => r#"The number of a field or of an enum's value is reserved.
 
 Where: the number, or its `-`.
 
@@ -311,8 +314,7 @@ Where: the number, or its `-`.
     a.proto:2:35: ReservedNumberUsed
 
 Cure: Take another number: what was reserved was in use once, and old data may hold it."#,
-        Topic::Kind(Kind::ReservedNameUsed) =>
-            r#"The name of a field or of an enum's value is reserved.
+        Kind::ReservedNameUsed => r#"The name of a field or of an enum's value is reserved.
 
 Where: the name.
 
@@ -322,8 +324,7 @@ Where: the name.
     a.proto:2:33: ReservedNameUsed
 
 Cure: Take another name."#,
-        Topic::Kind(Kind::ReservedOverlap) =>
-            r#"A reserved range shares a number with an earlier one.
+        Kind::ReservedOverlap => r#"A reserved range shares a number with an earlier one.
 
 Where: the later range's first token.
 
@@ -333,7 +334,7 @@ Where: the later range's first token.
     a.proto:2:30: ReservedOverlap
 
 Cure: Make one range of both."#,
-        Topic::Kind(Kind::ReservedNameTwice) => r#"A name is reserved twice.
+        Kind::ReservedNameTwice => r#"A name is reserved twice.
 
 Where: the later name's string.
 
@@ -343,7 +344,7 @@ Where: the later name's string.
     a.proto:2:27: ReservedNameTwice
 
 Cure: Leave one of them out."#,
-        Topic::Kind(Kind::ReservedBackwards) => r#"A reserved range ends before it begins.
+        Kind::ReservedBackwards => r#"A reserved range ends before it begins.
 
 Where: the range's first token.
 
@@ -353,7 +354,7 @@ Where: the range's first token.
     a.proto:2:22: ReservedBackwards
 
 Cure: Exchange its bounds."#,
-        Topic::Kind(Kind::JsonNameTwice) =>
+        Kind::JsonNameTwice =>
             r#"Two fields of a message have one name in JSON. `a_b` is `aB` there, unless `json_name` says something else.
 
 Where: the later field's name.
@@ -364,7 +365,7 @@ Where: the later field's name.
     a.proto:2:34: JsonNameTwice
 
 Cure: Rename one of them, or give it a `json_name`. Two fields of the same name have one name in JSON, too."#,
-        Topic::Kind(Kind::PackedOnWrongKind) =>
+        Kind::PackedOnWrongKind =>
             r#"`packed = true` on a field that is not repeated, is a string or bytes, or is a map.
 
 Where: the option's name.
@@ -375,7 +376,7 @@ Where: the option's name.
     a.proto:2:26: PackedOnWrongKind
 
 Cure: Leave the option out: repeated numbers are packed in proto3 anyway."#,
-        Topic::Kind(Kind::JstypeOnWrongKind) =>
+        Kind::JstypeOnWrongKind =>
             r#"`jstype` says string or number on a field whose type is no integer of 64 bits.
 
 Where: the option's name.
@@ -386,7 +387,7 @@ Where: the option's name.
     a.proto:2:26: JstypeOnWrongKind
 
 Cure: Leave the option out."#,
-        Topic::Kind(Kind::EnumEmpty) => r#"An enum has no value.
+        Kind::EnumEmpty => r#"An enum has no value.
 
 Where: the enum's name.
 
@@ -396,7 +397,7 @@ Where: the enum's name.
     a.proto:2:6: EnumEmpty
 
 Cure: Give it a value of the number 0."#,
-        Topic::Kind(Kind::EnumFirstNotZero) =>
+        Kind::EnumFirstNotZero =>
             r#"The first value of an enum is not 0, which a field has that is not set.
 
 Where: the number, or its `-`.
@@ -407,7 +408,7 @@ Where: the number, or its `-`.
     a.proto:2:14: EnumFirstNotZero
 
 Cure: Begin with a value of the number 0, as `E_UNSPECIFIED = 0;`."#,
-        Topic::Kind(Kind::EnumNumberRange) =>
+        Kind::EnumNumberRange =>
             r#"An enum's number or a bound of its reserved range that does not fit 32 bits with a sign.
 
 Where: the number, or its `-`.
@@ -418,7 +419,7 @@ Where: the number, or its `-`.
     a.proto:2:21: EnumNumberRange
 
 Cure: Take another number."#,
-        Topic::Kind(Kind::EnumNumberTwice) => r#"An earlier value has this number.
+        Kind::EnumNumberTwice => r#"An earlier value has this number.
 
 Where: the later value's number, or its `-`.
 
@@ -428,7 +429,7 @@ Where: the later value's number, or its `-`.
     a.proto:2:21: EnumNumberTwice
 
 Cure: Take another number, or write `option allow_alias = true;` in the enum."#,
-        Topic::Kind(Kind::OneofEmpty) => r#"A oneof has no member.
+        Kind::OneofEmpty => r#"A oneof has no member.
 
 Where: the oneof's name.
 
@@ -438,7 +439,7 @@ Where: the oneof's name.
     a.proto:2:19: OneofEmpty
 
 Cure: Give it a field, or leave it out."#,
-        Topic::Kind(Kind::NameTooLong) =>
+        Kind::NameTooLong =>
             r#"A name has more than 255 bytes, or a full name, with its package and the messages around it, more than 1,023.
 
 Where: the name; for a made one its field's name; for a package its first part.
@@ -448,7 +449,7 @@ Where: the name; for a made one its field's name; for a package its first part.
     a.proto:2:9: NameTooLong
 
 Cure: Shorten it."#,
-        Topic::Kind(Kind::ImportMissing) =>
+        Kind::ImportMissing =>
             r#"No file of this name is below the root or below an `--include` folder. A name is the path from there, with `/`.
 
 Where: the import's string.
@@ -459,7 +460,7 @@ Where: the import's string.
     a.proto:2:8: ImportMissing
 
 Cure: Set `--root` to the folder from which imports are written, or name another one by `--include`. Nothing is bundled: `--include /usr/include` takes what is imported from an installed protobuf. `--skip-custom-options` leaves out imports of what is no source. `describe` reads one file alone: a file with imports is for `compile`. In a set no file has this name: `protoc --include_imports`, and `buf build`, write a set with all that its files import."#,
-        Topic::Kind(Kind::ImportCycle) => r#"The file imports itself, or a file that reaches it.
+        Kind::ImportCycle => r#"The file imports itself, or a file that reaches it.
 
 Where: the import's string.
 
@@ -469,7 +470,7 @@ Where: the import's string.
     a.proto:2:8: ImportCycle
 
 Cure: Move what both need to a third file."#,
-        Topic::Kind(Kind::NameTwice) =>
+        Kind::NameTwice =>
             r#"Another element of these files has this full name. Values of an enum are named beside it, not within it. A package may stand in many files; an element may not have a package's name.
 
 Where: the later name; for a made one its field's name; for a package its first part.
@@ -481,7 +482,7 @@ Where: the later name; for a made one its field's name; for a package its first 
     a.proto:3:9: NameTwice
 
 Cure: Rename one of them, or put it in another package; values of enums are often given the enum's name in front."#,
-        Topic::Kind(Kind::TooManyNames) => r#"All files together declare more than 1,048,576 names.
+        Kind::TooManyNames => r#"All files together declare more than 1,048,576 names.
 
 Where: no file, and line 1, column 1.
 
@@ -493,7 +494,7 @@ Where: no file, and line 1, column 1.
     :1:1: TooManyNames
 
 Cure: Compile fewer files at once."#,
-        Topic::Kind(Kind::TypeNotFound) =>
+        Kind::TypeNotFound =>
             r#"No message and no enum that this file sees has this name. A file sees itself, what it imports, and what these import publicly. Of a compound name the innermost scope that has its first part decides.
 
 Where: the type's first token.
@@ -504,7 +505,7 @@ Where: the type's first token.
     a.proto:2:13: TypeNotFound
 
 Cure: Import the file that declares it. If a nearer scope has the first part of the name, write it from its package on, or with a leading `.`."#,
-        Topic::Kind(Kind::TypeNotMessage) => r#"The type of a method is an enum.
+        Kind::TypeNotMessage => r#"The type of a method is an enum.
 
 Where: the type's first token.
 
@@ -515,7 +516,7 @@ Where: the type's first token.
     a.proto:3:19: TypeNotMessage
 
 Cure: Put the enum in a message."#,
-        Topic::Kind(Kind::PackedOnMessage) => r#"`packed = true` on a field whose type is a message.
+        Kind::PackedOnMessage => r#"`packed = true` on a field whose type is a message.
 
 Where: the option's name.
 
@@ -525,18 +526,26 @@ Where: the option's name.
     a.proto:2:31: PackedOnMessage
 
 Cure: Leave the option out."#,
-        Topic::Kind(Kind::DescriptorTooLong) =>
-            "The descriptor of one file has more than 16,777,216 bytes.
+        Kind::DescriptorTooLong => "The descriptor of one file has more than 16,777,216 bytes.
 
 Where: the start of the file.
 
 Cure: Split the file.",
-        Topic::Kind(Kind::SetTooLong) =>
+        Kind::SetTooLong =>
             "The descriptors of all files have more than 1,073,741,824 bytes together.
 
 Where: no file, and line 1, column 1.
 
 Cure: Compile a folder further below.",
+    }
+}
+
+/// What is said of a topic: its first line says what it means, its last how it is cured.
+pub(crate) fn text_of(topic: Topic) -> &'static str
+    ensures { result.now ≡ text_of topic }
+{
+    match topic {
+        Topic::Kind(kind) => text_of_kind(kind),
         Topic::MalformedSet =>
             r#"The bytes are no `FileDescriptorSet`: they are no row of fields, as the encoding of Protocol Buffers has them.
 

@@ -73,7 +73,7 @@ IsPerformed (task.Answer from plan mode) reads reads' writes writes' =
 IsPerformed (task.Describe name) reads reads' writes writes' =
     EndsSound (λ done. IsDescribeRun name.now reads reads' writes writes' done)
 IsPerformed (task.Explain topic) reads reads' writes writes' =
-    EndsSound (λ done. IsExplainRun writes writes' done)
+    EndsSound (λ done. IsExplainRun topic writes writes' done)
 
 -- the words were no task: a text was written, as help is; or the command line is wrong, or memory was short, and
 -- nothing was
