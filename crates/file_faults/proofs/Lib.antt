@@ -1,6 +1,6 @@
 pub mod From
 pub mod Joining
-pub mod Naming
+pub mod NamedFaults
 pub mod Placing
 pub mod Spotting
 pub mod Telling

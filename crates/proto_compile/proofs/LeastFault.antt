@@ -1,5 +1,5 @@
 -- The least fault of sources: the least of the first pass that finds any. Sources that have passed break no rule.
-use Rattle.proto_compile.proofs.Common.{zero-add, ◌≡◌, ◌∙◌, sym, ℕ, ◌+◌, ◌<◌, ◌≤◌, List, [], length, ap, refl, arith, inl, inr, map, subst, Result, Ok, Err, Vec, IfErr, Global, ◌≢◌, Ordering, Greater, nat_cmp, cases_lt, cases_order, length-map, All-contains, Contains-permutation, IsPermutation-refl, IsPermutation-sym, AtMost, IsLeastBy, spot, NamesRise, Kind, Limits, Place, Spot, StandsAt, FileDesc, names_differ, rise_far, Linked, Index, IsTwice, Occurrence, occurrences, file_desc_bytes, AreResolved, IsAnalysed, TypesBreakAt, Compilation, IsCompiled, IsShort, IsWritten, set_of, Describe, SourceDescribes, Breaks, IsLeastFault, IsNoLater, SourceFault, bad_import, bad_type, fault, file_fault, long_descriptor, long_set, many_files, many_names, of_file, of_list, repeated_file_name, repeated_name, start, TellsOf, IsDescribed, IsFirstFound, IsResolved, IsWrittenShort, AreByName, name_at, text_of, Source, given_at, IfErr-weaker, CompileError, slice_cmp}
+use Rattle.proto_compile.proofs.Common.{zero-add, ◌≡◌, ◌∙◌, sym, Contains, ℕ, ◌+◌, ◌<◌, ◌≤◌, List, [], length, ap, refl, arith, inl, inr, map, subst, Result, Ok, Err, Vec, IfErr, Global, ◌≢◌, Ordering, Greater, nat_cmp, cases_lt, cases_order, length-map, All-contains, Contains-permutation, IsPermutation-refl, IsPermutation-sym, AtMost, IsLeastBy, spot, NamesRise, Kind, Limits, Place, Spot, StandsAt, FileDesc, names_differ, rise_far, Linked, Index, IsTwice, Occurrence, occurrences, file_desc_bytes, AreResolved, IsAnalysed, TypesBreakAt, Compilation, IsCompiled, IsShort, IsWritten, set_of, Describe, SourceDescribes, Breaks, IsLeastFault, IsNoLater, SourceFault, bad_import, bad_type, fault, file_fault, long_descriptor, long_set, many_files, many_names, of_file, of_list, repeated_file_name, repeated_name, start, TellsOf, IsDescribed, IsFirstFound, IsResolved, IsWrittenShort, AreByName, name_at, text_of, Source, given_at, IfErr-weaker, CompileError, slice_cmp}
 use Rattle.std.proofs.lemmas.Bool.Decides.{nat_tests}
 use Rattle.share_work.specs.Shares.{GivesItems}
 use Rattle.proto_base.specs.Limits.{limit_of}

@@ -27,7 +27,8 @@ behind_place c bs n fits none here =
 
 pub behind_none : (c : ℕ) (bs : List ℕ) → c < 128 → RFindsChar c bs None → bs ≡ after_last (λ b. b == c) bs
 behind_none c bs ascii none =
-    behind_place c bs 0 (omega arith) (λ k low high. NoCharPasses-char c bs k none ascii high) (λ low. absurd (omega arith))
+    behind_place c bs 0 (omega arith) (λ k low high. NoCharPasses-char c bs k none ascii high)
+    (λ low. absurd (omega arith))
 
 pub behind_found : (c : ℕ) (bs : List ℕ) (i j : ℕ) → c < 128 → RFindsChar c bs (Some (i, j)) → j ≤ length bs
     → drop j bs ≡ after_last (λ b. b == c) bs

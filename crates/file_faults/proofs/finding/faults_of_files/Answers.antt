@@ -1,7 +1,7 @@
 use Rattle.std.proofs.lemmas.Result.{IfOk-weaker}
 use Rattle.file_faults.specs.OwnFaults.{AreOwnFaults}
 use Rattle.share_work.proofs.Giving.{all_of_gives}
-use Rattle.file_faults.proofs.Naming.{are_told}
+use Rattle.file_faults.proofs.NamedFaults.{are_told}
 use Rattle.file_faults.proofs.Telling.{all_of_files, in_order, least_of_files}
 use Rattle.file_faults.proofs.finding.faults_of_files.Goals as goal
 

@@ -1,5 +1,5 @@
 use Rattle.std.proofs.Common.{arith, take_all}
-use Rattle.file_faults.proofs.Naming.{faults_more}
+use Rattle.file_faults.proofs.NamedFaults.{faults_more}
 use Rattle.file_faults.proofs.naming.all_named.Goals as goal
 
 pub loop-at-preserved : goal.loop-at-preserved

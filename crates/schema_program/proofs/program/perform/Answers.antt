@@ -60,5 +60,6 @@ pub returns-in-Explain : goal.returns-in-Explain
 returns-in-Explain g c =
     let writes = g.O.CountedWrite.writes in
     rw c.in-Explain.is
-    (ends_sound (λ done. IsExplainRun c.in-Explain.topic (writes c.args.output.now) (writes c.run_explain.new.writer) done)
+    (ends_sound (λ done. IsExplainRun c.in-Explain.topic (writes c.args.output.now)
+    (writes c.run_explain.new.writer) done)
     c.run_explain.result c.sound-in-Explain.result c.sound-in-Explain.ensures c.run_explain.ensures)

@@ -10,4 +10,5 @@ pub returns : goal.returns
 returns c =
     let names = is_named_by c.args.text.now in
     c.copied.ensures ∙ find_from_yields_List names _ _ c.find.result c.find.ensures.ran
-    (YieldsList-from_slice c.topics.result.now cc) (λ topic b q k. search (rules, tests)) ∙ ap (find names) c.topics.ensures
+    (YieldsList-from_slice c.topics.result.now cc) (λ topic b q k. search (rules, tests))
+    ∙ ap (find names) c.topics.ensures
