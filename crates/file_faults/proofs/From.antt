@@ -4,7 +4,7 @@ use Rattle.std.specs.Prelude.{AllPairs, ◌↔◌}
 use Rattle.std.proofs.lemmas.Bool.{cases_order}
 use Rattle.proto_base.specs.declared.limits.Limits.{Limits}
 use Rattle.proto_base.specs.declared.kind.Kind.TheVariants as kind
-use Rattle.proto_compile.specs.FaultSet.{Breaks, IsEarlier, IsFault, IsLeastFault, IsNoLater, SourceFault, long_set, of_list}
+use Rattle.proto_compile.specs.FaultSet.{Breaks, IsEarlier, IsFault, IsLeastFault, SourceFault, bad_import, bad_type, file_fault, long_descriptor, long_set, many_files, many_names, of_list, repeated_file_name, repeated_name}
 use Rattle.proto_compile.specs.declared.source.Source.{Source}
 use Rattle.proto_compile.proofs.LeastFault.{one_fault}
 use Rattle.share_work.proofs.Sums.{front, front_or_behind, none_in, pairs_first}
@@ -83,7 +83,15 @@ module _ (limits : Limits) (sources : List Source) (first : SourceFault)
 
   -- there is no later pass
   pass_few : (x : SourceFault) → Breaks limits sources x → x.pass ≤ 6
-  pass_few x breaks = grind arith
+  pass_few _ (many_files over) = omega arith
+  pass_few _ (repeated_file_name i j less below same) = omega arith
+  pass_few _ (file_fault s f inside wrong) = omega arith
+  pass_few _ (bad_import descs a place what described bad) = omega arith
+  pass_few _ (many_names descs described over) = omega arith
+  pass_few _ (repeated_name descs o described twice) = omega arith
+  pass_few _ (bad_type descs a desc place what described stands breaks) = omega arith
+  pass_few _ (long_descriptor files typed links index a desc resolved stands over) = omega arith
+  pass_few _ (long_set c written over) = omega arith
 
   -- a fault that no pass over files finds but that over lengths
   pub last_from : (first.pass ≡ 1 → ⊥) → (first.pass ≡ 2 → ⊥) → (first.pass ≡ 3 → ⊥) → (first.pass ≡ 4 → ⊥)

@@ -16,6 +16,7 @@ use Rattle.file_faults.proofs.Telling.{pairs_behind}
 
 rows_next : (a : ℕ) (rows : List (Vec Spot Global)) (k : ℕ) (row : Vec Spot Global) → k < length rows
     → spots_from a (take (suc k) rows) ≡ spots_from a (take k rows) ++ map (in_file (a + k)) (get_or rows k row).items
+rows_next a [] k row h = absurd (omega (arith, h))
 rows_next a (r ∷ rows) zero row h = rw add-zero (append-nil (map (in_file a) r.items))
 rows_next a (r ∷ rows) (suc k) row h =
     let next : a + suc k ≡ a + 1 + k = omega arith in

@@ -1,6 +1,8 @@
 pub mod From
 pub mod Joining
+pub mod Later
 pub mod NamedFaults
+pub mod Passing
 pub mod Placing
 pub mod Spotting
 pub mod Telling

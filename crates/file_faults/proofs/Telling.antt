@@ -1,5 +1,5 @@
 -- The faults of sources by themselves: there is one list of them, in the order of faults, and which faults it tells.
-use Rattle.std.proofs.Common.{◌≡◌, ◌≢◌, ◌∙◌, sym, ap, refl, ℕ, zero, suc, ◌<◌, ◌≤◌, ◌+◌, inl, inr, List, [], ◌∷◌, ◌++◌, length, map, arith, Contains}
+use Rattle.std.proofs.Common.{◌≡◌, ◌≢◌, ◌∙◌, sym, subst, ap, refl, ℕ, zero, suc, ◌<◌, ◌≤◌, ◌+◌, inl, inr, List, [], ◌∷◌, ◌++◌, length, map, arith, Contains}
 use Rattle.std.specs.Prelude.{AllPairs, ◌↔◌}
 use Rattle.std.proofs.lemmas.Bool.{cases_order}
 use Rattle.std.proofs.lemmas.Bool.Decides.{nat_tests}
@@ -14,7 +14,7 @@ use Rattle.proto_base.specs.declared.fault.Fault.{Fault}
 use Rattle.proto_base.specs.declared.file_fault.FileFault.{FileFault}
 use Rattle.proto_base.specs.declared.limits.Limit.TheVariants as limit
 use Rattle.proto_base.specs.declared.limits.Limits.{Limits}
-use Rattle.proto_compile.specs.FaultSet.{Breaks, IsEarlier, IsFault, IsLeastFault, SourceFault, bad_import, bad_type, fault, file_fault, long_descriptor, long_set, many_files, many_names, repeated_file_name, repeated_name, told_by}
+use Rattle.proto_compile.specs.FaultSet.{Breaks, IsEarlier, IsFault, IsLeastFault, IsNoLater, SourceFault, bad_import, bad_type, fault, file_fault, long_descriptor, long_set, many_files, many_names, repeated_file_name, repeated_name, told_by}
 use Rattle.proto_compile.specs.Sources.{AreByName, name_of, text_of}
 use Rattle.proto_compile.specs.declared.source.Source.{Source}
 use Rattle.proto_compile.proofs.LeastFault.{no_later_itself, none_of_list}
@@ -131,7 +131,7 @@ module _ {X : Type 0} (R : X → X → Type 0) (apart : (x y : X) → R x y → 
       cc (first, rest)
 
 apart : (f g : FileFault) → file_faults.IsEarlier f g → file_faults.IsEarlier g f → ⊥
-apart f g less more = grind arith
+apart f g less over = grind arith
 
 pub one_list : (limits : Limits) (files : List Source) (xs ys : List SourceFault) → AreFileFaults limits files xs
     → AreFileFaults limits files ys → xs ≡ ys
@@ -162,7 +162,7 @@ in_front file (f ∷ own) later order up before = pairs_cons IsEarlier (fault 1 
     (in_front file own later (pairs_behind file_faults.IsEarlier f own order) up before)
 
 rises_on : (name : List ℕ) (names : List (List ℕ)) → NamesRise (name ∷ names) → NamesRise names
-rises_on name names rises k below = rises (suc k) (omega (arith, below))
+rises_on name names rises k below = let up = rises (suc k) (omega (arith, below)) in grind (arith, up)
 
 -- the faults of sources in the order of their names
 pub in_order : (limits : Limits) (files : List Source) (xs : List SourceFault) → NamesRise (map name_of files)
@@ -178,7 +178,7 @@ in_order limits _ _ rises (more s own files xs is all) = in_front (name_of s) ow
 
 -- ---- the sources by their names
 
-both_hold : (sources files : List Source) → AreByName sources files → (s : Source)
+pub both_hold : (sources files : List Source) → AreByName sources files → (s : Source)
     → Contains files s ↔ Contains sources s
 both_hold sources files order s =
     (moved order.all (IsPermutation-refl sources) s, moved (IsPermutation-refl sources) order.all s)
@@ -196,7 +196,7 @@ least_of_files limits sources files faults few order all f rest e =
     record {
       among = (are (told_by f)).0 inside;
       least = λ y is. elim (front_or_behind (told_by f) (map told_by rest) y (rw list at ((are y).1 is))) [
-        | inl here ↦ rw here (no_later_itself y)
+        | inl here ↦ subst (λ (x : SourceFault). IsNoLater x y) (sym here) (no_later_itself y)
         | inr later ↦ (let less = pairs_first IsEarlier (told_by f) (map told_by rest) up y later in λ greater. (cc))
       ];
     }

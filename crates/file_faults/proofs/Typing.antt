@@ -1,5 +1,5 @@
 -- The faults of types that are found in each file are those of all files.
-use Rattle.std.proofs.Common.{◌≡◌, ap, refl, sym, ℕ, ◌+◌, ◌<◌, ◌≤◌, List, Vec, Global, length, arith, Contains, zero-add}
+use Rattle.std.proofs.Common.{◌≡◌, sym, subst, ℕ, ◌+◌, ◌<◌, ◌≤◌, List, Vec, Global, length, arith, Contains, zero-add}
 use Rattle.std.specs.Prelude.{AllPairs}
 use Rattle.proto_base.specs.Least.{Precedes as SpotPrecedes}
 use Rattle.proto_base.specs.Sets.{StandsAt}
@@ -35,8 +35,9 @@ module _ {limits : Limits} {descs : List FileDesc} {links : Linked} {index : Ind
       let found = row_at k desc row stands at in
       let is : x.file ≡ k = omega (arith, file) in (
         desc,
-        rw is stands,
-        rw is ((broken_by_index linked indexed k desc x.spot stands.0).1 ((found.all x.spot).0 there)),
+        subst (λ n. StandsAt descs n desc) (sym is) stands,
+        subst (λ n. TypesBreak (occurrences descs) (Sees descs n) desc x.spot) (sym is)
+            ((broken_by_index linked indexed k desc x.spot stands.0).1 ((found.all x.spot).0 there)),
       )
 
   fault_told : (x : FileSpot) (desc : FileDesc) → StandsAt descs x.file desc

@@ -59,19 +59,18 @@ pub record CanBeTyped (limits : Limits) (descs : List FileDesc) : Type 0 where
 -- ---- a pass
 
 -- exactly where what sources describe breaks a rule of the pass over imports, over names or over types
-abbrev pub AreSpotsOf : Limits → List FileDesc → ℕ → List FileSpot → Type 0
-AreSpotsOf limits descs 2 spots = AreAllBad descs spots
-AreSpotsOf limits descs 3 spots =
-    AreAllTwice (occurrences descs) spots × (length (occurrences descs) ≤ limit_of limits limit.Names)
-AreSpotsOf limits descs 4 spots = CanBeTyped limits descs → AreAllTypeFaults descs spots
-AreSpotsOf limits descs pass spots = ⊥
+pub data AreSpotsOf (limits : Limits) (descs : List FileDesc) : ℕ → List FileSpot → Type 0 where
+  of_imports : (spots : List FileSpot) → AreAllBad descs spots → AreSpotsOf limits descs 2 spots
+  of_names : (spots : List FileSpot) → AreAllTwice (occurrences descs) spots
+      → length (occurrences descs) ≤ limit_of limits limit.Names → AreSpotsOf limits descs 3 spots
+  of_types : (spots : List FileSpot) → (CanBeTyped limits descs → AreAllTypeFaults descs spots)
+      → AreSpotsOf limits descs 4 spots
 
 -- there are too many names, or it is another pass
-abbrev pub HasNoSpots : Limits → List FileDesc → ℕ → Type 0
-HasNoSpots limits descs 2 = ⊥
-HasNoSpots limits descs 3 = limit_of limits limit.Names < length (occurrences descs)
-HasNoSpots limits descs 4 = ⊥
-HasNoSpots limits descs pass = Unit {0}
+pub record HasNoSpots (limits : Limits) (descs : List FileDesc) (pass : ℕ) : Type 0 where
+  pub imports : pass ≡ 2 → ⊥
+  pub names : pass ≡ 3 → limit_of limits limit.Names < length (occurrences descs)
+  pub types : pass ≡ 4 → ⊥
 
 -- a fault of one of these passes
 abbrev pub IsLater : SourceFault → Type 0

@@ -40,7 +40,8 @@ where
     };
     match NameIndex::build_by(rt, descs, limits, Threading::Shared) {
         Ok(index) => Ok(Some(Lookup { links, index })),
-        Err(NameError::At(..) | NameError::TooMany) => Ok(None),
+        Err(NameError::At(..)) => Ok(None),
+        Err(NameError::TooMany) => Ok(None),
         Err(NameError::NoMemory) => Err(AllocError),
     }
 }
