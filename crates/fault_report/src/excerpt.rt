@@ -1,18 +1,17 @@
 //! What a report shows of a text around a place.
 
-ghost use Rattle.std.specs.Prelude.{◌≡◌, ◌-◌, ◌<◌, ◌≤◌, ◌^◌, ◌++◌, IfOk, Some, encode_utf8_all, length, map, replicate, string_bytes};
+ghost use Rattle.std.specs.Prelude.{◌≡◌, ◌-◌, ◌<◌, ◌≤◌, ◌^◌, ◌++◌, ℕ, IfOk, Some, encode_utf8_all, length, map, replicate, string_bytes};
 ghost use Rattle.std.specs.Fmt.{decimal};
 ghost use Rattle.fault_report.specs.Excerpts.{IsExcerpt, carets, rows_of};
 ghost use Rattle.fault_report.specs.Shown.{back_of, blank_below, front_of};
-ghost use Rattle.fault_report.specs.Tokens.{offset_of};
+ghost use Rattle.fault_report.specs.Tokens.{AreTokens, offset_of};
 ghost use Rattle.fault_report.specs.Windows.{IsWindow};
-ghost use Rattle.proto_base.specs.Limits.{limit_of};
-ghost use Rattle.proto_base.specs.declared.limits.Limit.TheVariants as limit;
 
-use crate::line::{Line, line_around};
+use crate::line::{Line, Lines};
 use crate::shown::{MOST, cut_back, cut_front, shown};
 use crate::token_end::token_end;
-use proto_base::{Limits, Place};
+use proto_base::Place;
+use proto_tokens::Tokens;
 use std::alloc::{AllocError, Global};
 use std::fmt;
 
@@ -139,23 +138,24 @@ fn window_around(alloc: Global, line: Line) -> Result<Window, AllocError>
 }
 
 /// The line of a text around a place, with carets below the token that begins there: as wide as it is in this line, and one where
-/// no token begins or the text has a fault of its tokens.
+/// no token begins or the text has a fault of its tokens. The tokens are those of the text (`tokens_in`).
 ///
 /// A line of more than 200 characters is cut to the 100 before the place and the 100 from it on. Control characters are shown as
 /// `?`, but tabs as they are, in both rows; bytes that are no UTF-8 as U+FFFD.
 pub fn excerpt_at(
     alloc: Global,
-    text: &[u8],
+    lines: &Lines<'_>,
+    tokens: &Option<Tokens<'_>>,
     place: Place,
-    limits: &Limits,
 ) -> Result<Excerpt, AllocError>
-    requires within { place.offset ≤ length text.now }
+    requires within { place.offset ≤ length lines.now.text.now }
     requires below_last { place.offset < 2 ^ 32 - 1 }
-    ensures { IfOk result (IsExcerpt (limit_of limits.now limit.FileBytes) text.now place.offset) }
+    ensures { (limit : ℕ) → AreTokens limit lines.now.text.now tokens.now
+        → IfOk result (IsExcerpt limit lines.now.text.now place.offset) }
 {
-    let line = line_around(text, place);
+    let line = lines.around(place);
     let window = window_around(alloc, line)?;
-    let end = token_end(alloc, text, place, limits)?;
+    let end = token_end(tokens, place);
     let carets = carets_of(alloc, place, end, line.after, window.back.len())?;
     Ok(Excerpt {
         number: line.number,

@@ -9,4 +9,5 @@ mod token_end;
 
 pub use excerpt::{Excerpt, excerpt_at};
 pub use form::Form;
-pub use line::{Line, line_around};
+pub use line::{Line, Lines};
+pub use token_end::tokens_in;

@@ -9,6 +9,9 @@ const LIKE: f64 = 0.7;
 /// So many names are compared in one run, so that many faults in many files take no longer.
 const MOST: usize = 200_000;
 
+/// Texts of more bytes are like no other: what a comparison takes grows with the product of both lengths.
+const LONGEST: usize = 255;
+
 /// How many names may still be compared.
 #[derive(Clone, Copy)]
 pub(crate) struct Budget {
@@ -53,6 +56,9 @@ impl<'n> Nearest<'n> {
         compared: &str,
         name: &'n str,
     ) -> Result<(), AllocError> {
+        if written.len() > LONGEST || compared.len() > LONGEST {
+            return Ok(());
+        }
         let likeness = jaro_winkler(alloc, written, compared)?;
         if likeness > self.likeness {
             self.likeness = likeness;

@@ -1,21 +1,35 @@
 //! What is said of imports that are missing, and of those in a circle.
 
-use crate::budget::Nearest;
+use crate::budget::{Budget, Nearest};
 use crate::known::Known;
 use crate::words::Words;
-use proto_base::{Fault, Kind};
+use proto_base::{Fault, Kind, Place};
+use proto_desc::file::FileDesc;
 use schema_failure::Shown;
 use std::alloc::{AllocError, Global};
-use std::collections::VecDeque;
+use std::collections::{BTreeMap, VecDeque};
 use std::fmt::Write;
+
+/// The paths that a file imports, by their places.
+pub(crate) fn imports_in<'d>(
+    alloc: Global,
+    desc: &'d FileDesc<'_>,
+) -> Result<BTreeMap<Place, &'d str>, AllocError> {
+    let mut paths = BTreeMap::new(alloc);
+    for import in desc.imports.as_slice() {
+        paths.insert(import.place, import.path.as_str())?;
+    }
+    Ok(paths)
+}
 
 /// The name of a file that is most like a path, if one is like it.
 fn nearest_name<'s>(
     alloc: Global,
-    known: &mut Known<'_, 's>,
+    known: &Known<'_, 's>,
+    budget: &mut Budget,
     path: &str,
 ) -> Result<Option<&'s str>, AllocError> {
-    if !known.budget.take(known.files.len()) {
+    if !budget.take(known.files.len()) {
         return Ok(None);
     }
     let mut nearest = Nearest::new();
@@ -28,11 +42,13 @@ fn nearest_name<'s>(
 /// What is said of an import of a path that names no source.
 fn missing_words(
     alloc: Global,
-    known: &mut Known<'_, '_>,
+    known: &Known<'_, '_>,
+    budget: &mut Budget,
     path: &str,
 ) -> Result<String, AllocError> {
+    let near = nearest_name(alloc, known, budget, path)?;
     let path = Shown(path);
-    match nearest_name(alloc, known, path.0)? {
+    match near {
         Some(near) => format!(in alloc;
             "no file is called `{path}`; a similar name is `{}`",
             Shown(near)
@@ -110,14 +126,15 @@ fn way_back(
 /// What is said of an import of a file from which there is a way back.
 fn circle_words(
     alloc: Global,
-    known: &mut Known<'_, '_>,
+    known: &Known<'_, '_>,
+    budget: &mut Budget,
     file: &str,
     path: &str,
 ) -> Result<Option<String>, AllocError> {
     let (Some(start), Some(next)) = (known.position(file), known.position(path)) else {
         return Ok(None);
     };
-    if !known.budget.take(known.files.len()) {
+    if !budget.take(known.size) {
         return Ok(None);
     }
     let way = way_back(alloc, known, start, next)?;
@@ -130,19 +147,20 @@ fn circle_words(
     Ok(Some(text))
 }
 
-/// What is said of a fault of an import.
+/// What is said of a fault of an import, which has this path.
 pub(crate) fn import_words<'s>(
     alloc: Global,
-    known: &mut Known<'_, 's>,
+    known: &Known<'_, 's>,
+    budget: &mut Budget,
+    path: Option<&str>,
     fault: &Fault,
 ) -> Result<Option<Words<'s>>, AllocError> {
-    let file = fault.file.as_str();
-    let Some(path) = known.path_at(alloc, fault)? else {
+    let Some(path) = path else {
         return Ok(None);
     };
     let about = match fault.kind {
-        Kind::ImportMissing => Some(missing_words(alloc, known, path.as_str())?),
-        Kind::ImportCycle => circle_words(alloc, known, file, path.as_str())?,
+        Kind::ImportMissing => Some(missing_words(alloc, known, budget, path)?),
+        Kind::ImportCycle => circle_words(alloc, known, budget, fault.file.as_str(), path)?,
         _ => None,
     };
     Ok(about.map(|about| Words::alone(about)))

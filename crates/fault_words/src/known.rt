@@ -1,27 +1,39 @@
 //! What is known of all files.
 
-use crate::budget::Budget;
-use crate::names::{Firsts, firsts_of};
-use crate::types::{Types, types_of};
 use crate::words::File;
-use proto_base::{Fault, FileError, Kind, Limits};
+use proto_base::{Fault, FileError, Limits};
 use proto_desc::file::FileDesc;
 use proto_file::describe;
 use std::alloc::{AllocError, Global};
-use std::collections::BTreeMap;
 
-/// What is known of all files, as far as the faults of a pass need it.
+/// The numbers of the passes over all files that tell faults of one file each.
+pub(crate) const LOCAL: u8 = 1;
+
+pub(crate) const IMPORTS: u8 = 2;
+
+pub(crate) const NAMES: u8 = 3;
+
+pub(crate) const TYPES: u8 = 4;
+
+/// The files in which faults are told, and what each describes.
 #[derive(Drop)]
 pub(crate) struct Known<'k, 's> {
+    /// The pass of the faults; 0 where there is none, or one of the whole list.
+    pub(crate) pass: u8,
     pub(crate) files: &'k [File<'s>],
     pub(crate) limits: &'k Limits,
-    pub(crate) budget: Budget,
     /// What each describes; empty where faults are of files by themselves.
     descs: Vec<Option<FileDesc<'s>>>,
-    /// Of each name that is told to be there twice the first declaration.
-    pub(crate) firsts: Firsts<'s>,
-    /// All messages, enums and packages, where types are told.
-    pub(crate) types: Types<'s>,
+    /// How many files are described, with all that they import.
+    pub(crate) size: usize,
+}
+
+/// The pass of faults, which all are of one; 0 where there is none, or one of the whole list.
+fn pass_of(faults: &[Fault]) -> u8 {
+    match faults {
+        [first, ..] if !first.file.is_empty() => first.pass,
+        _ => 0,
+    }
 }
 
 /// What each file describes.
@@ -41,37 +53,38 @@ fn descs_of<'s>(
     Ok(descs)
 }
 
+/// How many files are described, with all that they import.
+fn size_of(descs: &[Option<FileDesc<'_>>]) -> usize {
+    let mut size = descs.len();
+    for desc in descs {
+        if let Some(desc) = desc {
+            size = size.saturating_add(desc.imports.as_slice().len());
+        }
+    }
+    size
+}
+
 impl<'k, 's> Known<'k, 's> {
-    /// What faults of these files need, which all are of one pass.
+    /// What these faults need to be known of the files.
     pub(crate) fn new(
         alloc: Global,
         files: &'k [File<'s>],
         faults: &[Fault],
         limits: &'k Limits,
     ) -> Result<Known<'k, 's>, AllocError> {
-        let mut known = Known {
+        let pass = pass_of(faults);
+        let descs = match pass {
+            IMPORTS | NAMES | TYPES => descs_of(alloc, files, limits)?,
+            _ => Vec::new(alloc),
+        };
+        let size = size_of(&descs);
+        Ok(Known {
+            pass,
             files,
             limits,
-            budget: Budget::new(),
-            descs: Vec::new(alloc),
-            firsts: BTreeMap::new(alloc),
-            types: BTreeMap::new(alloc),
-        };
-        match faults.first().map(|fault| fault.kind) {
-            Some(Kind::ImportMissing | Kind::ImportCycle) => {
-                known.descs = descs_of(alloc, files, limits)?;
-            }
-            Some(Kind::NameTwice) => {
-                known.descs = descs_of(alloc, files, limits)?;
-                known.firsts = firsts_of(alloc, &known, faults)?;
-            }
-            Some(Kind::TypeNotFound | Kind::TypeNotMessage | Kind::PackedOnMessage) => {
-                known.descs = descs_of(alloc, files, limits)?;
-                known.types = types_of(alloc, &known)?;
-            }
-            _ => {}
-        }
-        Ok(known)
+            descs,
+            size,
+        })
     }
 
     /// The position of the file of a name.
@@ -83,38 +96,11 @@ impl<'k, 's> Known<'k, 's> {
         }
     }
 
-    pub(crate) fn file(&self, name: &str) -> Option<File<'s>> {
-        let at = self.position(name)?;
-        self.files.get(at).copied()
-    }
-
     /// What the file at a position describes.
     pub(crate) fn desc_at(&self, at: usize) -> Option<&FileDesc<'s>> {
         match self.descs.get(at) {
             Some(Some(desc)) => Some(desc),
             _ => None,
         }
-    }
-
-    pub(crate) fn desc(&self, name: &str) -> Option<&FileDesc<'s>> {
-        let at = self.position(name)?;
-        self.desc_at(at)
-    }
-
-    /// The path of the import that stands at the place of a fault.
-    pub(crate) fn path_at(
-        &self,
-        alloc: Global,
-        fault: &Fault,
-    ) -> Result<Option<String>, AllocError> {
-        let Some(desc) = self.desc(fault.file.as_str()) else {
-            return Ok(None);
-        };
-        for import in desc.imports.as_slice() {
-            if import.place == fault.place {
-                return Ok(Some(String::from_str(alloc, import.path.as_str())?));
-            }
-        }
-        Ok(None)
     }
 }

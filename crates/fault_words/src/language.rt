@@ -66,27 +66,29 @@ fn language_by(tokens: &Tokens) -> Language {
 /// In comments before the first statement so many semicolons are passed over.
 const MOST_TRIES: usize = 100;
 
+/// The language of a file that begins with a text; unknown where its bytes are no tokens.
+fn language_by_head(alloc: Global, head: &[u8], limits: &Limits) -> Result<Language, AllocError> {
+    match tokenize(alloc, head, limits) {
+        Ok(tokens) => Ok(language_by(&tokens)),
+        Err(TokenError::At(..)) => Ok(Language::Unknown),
+        Err(TokenError::NoMemory) => Err(AllocError),
+    }
+}
+
 /// The language of a text: its bytes are read up to a semicolon, the first at which they are tokens.
 pub(crate) fn language_of(
     alloc: Global,
     text: &[u8],
     limits: &Limits,
 ) -> Result<Language, AllocError> {
-    let ends = text
-        .iter()
-        .enumerate()
-        .filter(|(_, byte)| **byte == b';')
-        .map(|(at, _)| at);
-    for at in ends.take(MOST_TRIES) {
-        match tokenize(alloc, &text[..at], limits) {
-            Ok(tokens) => {
-                let language = language_by(&tokens);
-                if language != Language::Unknown {
-                    return Ok(language);
-                }
+    let mut tries = 0usize;
+    for (at, byte) in text.iter().enumerate() {
+        if *byte == b';' {
+            let language = language_by_head(alloc, &text[..at], limits)?;
+            tries = tries.saturating_add(1);
+            if language != Language::Unknown || tries == MOST_TRIES {
+                return Ok(language);
             }
-            Err(TokenError::At(..)) => {}
-            Err(TokenError::NoMemory) => return Err(AllocError),
         }
     }
     Ok(Language::Unknown)

@@ -1,7 +1,7 @@
 //! What is said of names that are there twice.
 
 use crate::declared::{Declaration, Sink, put_file};
-use crate::known::Known;
+use crate::known::{Known, NAMES};
 use crate::words::{Other, Words};
 use proto_base::{Fault, Kind, Place};
 use proto_desc::file::FileDesc;
@@ -9,7 +9,7 @@ use std::alloc::{AllocError, Global};
 use std::collections::BTreeMap;
 
 /// The full names that a file declares at each place.
-pub(crate) type NamesAt = BTreeMap<Place, Vec<String>>;
+type NamesAt = BTreeMap<Place, Vec<String>>;
 
 /// Where a name is declared, and for what.
 #[derive(Clone, Copy)]
@@ -18,8 +18,44 @@ pub(crate) struct Declared<'s> {
     pub(crate) what: Declaration,
 }
 
-/// The first declarations of names.
-pub(crate) type Firsts<'s> = BTreeMap<String, Option<Declared<'s>>>;
+/// The first declarations of names, as far as they are known.
+type Firsts<'s> = BTreeMap<String, Option<Declared<'s>>>;
+
+/// Names that are told to be there twice.
+#[derive(Drop)]
+pub(crate) struct Twice<'s> {
+    /// The names that are declared at the place of each fault.
+    asked: Vec<Vec<String>>,
+    /// The first declaration of each of these.
+    firsts: Firsts<'s>,
+}
+
+impl<'s> Twice<'s> {
+    pub(crate) fn new(alloc: Global) -> Twice<'s> {
+        Twice {
+            asked: Vec::new(alloc),
+            firsts: BTreeMap::new(alloc),
+        }
+    }
+
+    /// Asks for these names, at the place of the next fault.
+    fn ask(&mut self, alloc: Global, names: Vec<String>) -> Result<(), AllocError> {
+        for name in &names {
+            self.firsts
+                .insert(String::from_str(alloc, name.as_str())?, None)?;
+        }
+        self.asked.push(names)?;
+        Ok(())
+    }
+
+    /// The names that are declared at the place of a fault, by its position in the list of faults.
+    fn names_at(&self, fault: usize) -> &[String] {
+        match self.asked.get(fault) {
+            Some(names) => names.as_slice(),
+            None => &[],
+        }
+    }
+}
 
 /// Takes in the names of a file by their places.
 #[derive(Drop)]
@@ -43,7 +79,7 @@ impl Sink for ByPlace {
 }
 
 /// The names that a file declares, by their places.
-pub(crate) fn names_at(alloc: Global, desc: &FileDesc) -> Result<NamesAt, AllocError> {
+fn names_by_place(alloc: Global, desc: &FileDesc) -> Result<NamesAt, AllocError> {
     let mut sink = ByPlace {
         alloc,
         names: BTreeMap::new(alloc),
@@ -74,67 +110,73 @@ impl<'s> Sink for ByName<'_, 's> {
     }
 }
 
-/// Puts the names that a file declares at the place of a fault, of which no declaration is known.
-fn put_asked(
+/// The names that the file at a position declares, by their places.
+fn names_in(
     alloc: Global,
-    names: &NamesAt,
-    place: Place,
-    firsts: &mut Firsts<'_>,
-) -> Result<(), AllocError> {
-    let Some(names) = names.get(&place) else {
-        return Ok(());
-    };
-    for name in names {
-        firsts.insert(String::from_str(alloc, name.as_str())?, None)?;
+    known: &Known<'_, '_>,
+    file: Option<usize>,
+) -> Result<NamesAt, AllocError> {
+    match file.and_then(|at| known.desc_at(at)) {
+        Some(desc) => names_by_place(alloc, desc),
+        None => Ok(BTreeMap::new(alloc)),
     }
-    Ok(())
 }
 
-/// The first declarations of the names that faults tell.
-pub(crate) fn firsts_of<'s>(
+/// Finds the first declarations of names that are asked for.
+fn put_firsts<'s>(
     alloc: Global,
     known: &Known<'_, 's>,
-    faults: &[Fault],
-) -> Result<Firsts<'s>, AllocError> {
-    let mut firsts = BTreeMap::new(alloc);
-    let mut names = BTreeMap::new(alloc);
-    let mut file = "";
-    for fault in faults {
-        if fault.file.as_str() != file {
-            file = fault.file.as_str();
-            if let Some(desc) = known.desc(file) {
-                names = names_at(alloc, desc)?;
-            }
-        }
-        put_asked(alloc, &names, fault.place, &mut firsts)?;
-    }
+    firsts: &mut Firsts<'s>,
+) -> Result<(), AllocError> {
     for (at, file) in known.files.iter().enumerate() {
         if let Some(desc) = known.desc_at(at) {
             let mut sink = ByName {
                 file: file.name,
-                firsts: &mut firsts,
+                firsts,
             };
             put_file(alloc, desc, &mut sink)?;
         }
     }
-    Ok(firsts)
+    Ok(())
 }
 
-/// What is said of a name that another element has.
-pub(crate) fn twice_words<'s>(
+/// The names that faults tell to be there twice; none, where they are of another pass.
+pub(crate) fn twice_of<'s>(
     alloc: Global,
     known: &Known<'_, 's>,
-    names: &NamesAt,
+    faults: &[Fault],
+) -> Result<Twice<'s>, AllocError> {
+    let mut twice = Twice::new(alloc);
+    if known.pass != NAMES {
+        return Ok(twice);
+    }
+    let mut names = BTreeMap::new(alloc);
+    let mut current = None;
+    for fault in faults {
+        let file = known.position(fault.file.as_str());
+        if file != current {
+            names = names_in(alloc, known, file)?;
+            current = file;
+        }
+        let asked = names.remove(&fault.place).unwrap_or(Vec::new(alloc));
+        twice.ask(alloc, asked)?;
+    }
+    put_firsts(alloc, known, &mut twice.firsts)?;
+    Ok(twice)
+}
+
+/// What is said of a name that another element has: of the fault at a position in the list of faults.
+pub(crate) fn twice_words<'s>(
+    alloc: Global,
+    twice: &Twice<'s>,
+    at: usize,
     fault: &Fault,
 ) -> Result<Option<Words<'s>>, AllocError> {
     if fault.kind != Kind::NameTwice {
         return Ok(None);
     }
-    let Some(names) = names.get(&fault.place) else {
-        return Ok(None);
-    };
-    for name in names {
-        if let Some(Some(first)) = known.firsts.get(name) {
+    for name in twice.names_at(at) {
+        if let Some(Some(first)) = twice.firsts.get(name) {
             if first.at.file != fault.file.as_str() || first.at.place != fault.place {
                 let what = first.what.name();
                 return Ok(Some(Words {

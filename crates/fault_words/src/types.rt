@@ -2,7 +2,7 @@
 
 use crate::budget::{Budget, Nearest};
 use crate::declared::{Declaration, Sink, full_name, put_file};
-use crate::known::Known;
+use crate::known::{Known, TYPES};
 use crate::names::Declared;
 use crate::words::{Other, Words};
 use proto_base::{Fault, Kind, Place};
@@ -10,6 +10,7 @@ use proto_desc::field::FieldKind;
 use proto_desc::file::FileDesc;
 use proto_desc::message::MessageDesc;
 use proto_desc::name_kind::NameKind;
+use proto_desc::service::ServiceDesc;
 use proto_desc::type_name::TypeReference;
 use schema_failure::Shown;
 use std::alloc::{AllocError, Global};
@@ -17,10 +18,13 @@ use std::collections::BTreeMap;
 
 /// The name of a type as it is spelled, and the scope in which it is.
 #[derive(Drop)]
-pub(crate) struct Reference {
+pub(crate) struct Reference<'d> {
     scope: String,
-    spelled: String,
+    spelled: &'d str,
 }
+
+/// The types that a file spells, by their places.
+pub(crate) type References<'d> = BTreeMap<Place, Reference<'d>>;
 
 /// Messages, enums and packages by their full names: of each the first declaration.
 pub(crate) type Types<'s> = BTreeMap<String, Declared<'s>>;
@@ -52,9 +56,12 @@ impl<'s> Sink for TypeSink<'_, 's> {
     }
 }
 
-/// All messages, enums and packages.
+/// All messages, enums and packages; none, where faults are of another pass.
 pub(crate) fn types_of<'s>(alloc: Global, known: &Known<'_, 's>) -> Result<Types<'s>, AllocError> {
     let mut types = BTreeMap::new(alloc);
+    if known.pass != TYPES {
+        return Ok(types);
+    }
     for (at, file) in known.files.iter().enumerate() {
         if let Some(desc) = known.desc_at(at) {
             let mut sink = TypeSink {
@@ -68,16 +75,16 @@ pub(crate) fn types_of<'s>(alloc: Global, known: &Known<'_, 's>) -> Result<Types
 }
 
 /// Puts a reference that is spelled in a scope.
-fn put_reference(
+fn put_reference<'d>(
     alloc: Global,
-    references: &mut BTreeMap<Place, Reference>,
+    references: &mut References<'d>,
     scope: &str,
-    reference: &TypeReference,
+    reference: &'d TypeReference<'_>,
 ) -> Result<(), AllocError> {
     if let TypeReference::Spelled { place, text } = reference {
         let reference = Reference {
             scope: String::from_str(alloc, scope)?,
-            spelled: String::from_str(alloc, text.as_str())?,
+            spelled: text.as_str(),
         };
         references.insert(*place, reference)?;
     }
@@ -85,11 +92,11 @@ fn put_reference(
 }
 
 /// Puts the types that a message spells, and those within it.
-fn put_message(
+fn put_message<'d>(
     alloc: Global,
-    references: &mut BTreeMap<Place, Reference>,
+    references: &mut References<'d>,
     scope: &str,
-    message: &MessageDesc,
+    message: &'d MessageDesc<'_>,
 ) -> Result<(), AllocError> {
     let inner = full_name(alloc, scope, message.name.as_str())?;
     for field in message.fields.as_slice() {
@@ -103,23 +110,34 @@ fn put_message(
     Ok(())
 }
 
-/// Puts the types that a file spells, by their places.
-pub(crate) fn put_references(
+/// Puts the types that a service spells.
+fn put_service<'d>(
     alloc: Global,
-    references: &mut BTreeMap<Place, Reference>,
-    desc: &FileDesc,
+    references: &mut References<'d>,
+    scope: &str,
+    service: &'d ServiceDesc<'_>,
 ) -> Result<(), AllocError> {
-    for message in desc.messages.as_slice() {
-        put_message(alloc, references, desc.scope(), message)?;
-    }
-    for service in desc.services.as_slice() {
-        let scope = full_name(alloc, desc.scope(), service.name.as_str())?;
-        for method in service.methods.as_slice() {
-            put_reference(alloc, references, scope.as_str(), &method.input)?;
-            put_reference(alloc, references, scope.as_str(), &method.output)?;
-        }
+    let inner = full_name(alloc, scope, service.name.as_str())?;
+    for method in service.methods.as_slice() {
+        put_reference(alloc, references, inner.as_str(), &method.input)?;
+        put_reference(alloc, references, inner.as_str(), &method.output)?;
     }
     Ok(())
+}
+
+/// The types that a file spells, by their places.
+pub(crate) fn references_in<'d>(
+    alloc: Global,
+    desc: &'d FileDesc<'_>,
+) -> Result<References<'d>, AllocError> {
+    let mut references = BTreeMap::new(alloc);
+    for message in desc.messages.as_slice() {
+        put_message(alloc, &mut references, desc.scope(), message)?;
+    }
+    for service in desc.services.as_slice() {
+        put_service(alloc, &mut references, desc.scope(), service)?;
+    }
+    Ok(references)
 }
 
 /// The scope around another, if there is one.
@@ -152,9 +170,9 @@ struct Found<'s> {
 fn found_outwards<'s>(
     alloc: Global,
     types: &Types<'s>,
-    reference: &Reference,
+    reference: &Reference<'_>,
 ) -> Result<Option<Found<'s>>, AllocError> {
-    let spelled = reference.spelled.as_str();
+    let spelled = reference.spelled;
     let first = spelled.split('.').next().unwrap_or(spelled);
     let mut nearer = None;
     let mut scope = reference.scope.as_str();
@@ -185,9 +203,9 @@ fn found_outwards<'s>(
 fn found_for<'s>(
     alloc: Global,
     types: &Types<'s>,
-    reference: &Reference,
+    reference: &Reference<'_>,
 ) -> Result<Option<Found<'s>>, AllocError> {
-    let Some(spelled) = reference.spelled.as_str().strip_prefix('.') else {
+    let Some(spelled) = reference.spelled.strip_prefix('.') else {
         return found_outwards(alloc, types, reference);
     };
     let full = String::from_str(alloc, spelled)?;
@@ -266,11 +284,12 @@ fn unseen_words<'s>(alloc: Global, found: Found<'s>, file: &str) -> Result<Words
 /// What is said of a type that was not found.
 fn not_found_words<'s>(
     alloc: Global,
-    known: &mut Known<'_, 's>,
-    reference: &Reference,
+    types: &Types<'s>,
+    budget: &mut Budget,
+    reference: &Reference<'_>,
     file: &str,
 ) -> Result<Words<'s>, AllocError> {
-    match found_for(alloc, &known.types, reference)? {
+    match found_for(alloc, types, reference)? {
         Some(found) if found.declared.what == Declaration::Package => {
             let full = found.full;
             Ok(Words {
@@ -279,22 +298,17 @@ fn not_found_words<'s>(
             })
         }
         Some(found) => unseen_words(alloc, found, file),
-        None => unknown_words(
-            alloc,
-            &known.types,
-            &mut known.budget,
-            reference.spelled.as_str(),
-        ),
+        None => unknown_words(alloc, types, budget, reference.spelled),
     }
 }
 
 /// What is said of an enum where a message is wanted.
 fn enum_words<'s>(
     alloc: Global,
-    known: &Known<'_, 's>,
-    reference: &Reference,
+    types: &Types<'s>,
+    reference: &Reference<'_>,
 ) -> Result<Option<Words<'s>>, AllocError> {
-    let Some(found) = found_for(alloc, &known.types, reference)? else {
+    let Some(found) = found_for(alloc, types, reference)? else {
         return Ok(None);
     };
     let full = found.full;
@@ -307,8 +321,9 @@ fn enum_words<'s>(
 /// What is said of a fault of a type, which is spelled so.
 pub(crate) fn type_words<'s>(
     alloc: Global,
-    known: &mut Known<'_, 's>,
-    reference: Option<&Reference>,
+    types: &Types<'s>,
+    budget: &mut Budget,
+    reference: Option<&Reference<'_>>,
     fault: &Fault,
 ) -> Result<Option<Words<'s>>, AllocError> {
     let Some(reference) = reference else {
@@ -316,10 +331,10 @@ pub(crate) fn type_words<'s>(
     };
     match fault.kind {
         Kind::TypeNotFound => {
-            let words = not_found_words(alloc, known, reference, fault.file.as_str())?;
+            let words = not_found_words(alloc, types, budget, reference, fault.file.as_str())?;
             Ok(Some(words))
         }
-        Kind::TypeNotMessage => enum_words(alloc, known, reference),
+        Kind::TypeNotMessage => enum_words(alloc, types, reference),
         _ => Ok(None),
     }
 }

@@ -2,13 +2,14 @@
 
 ghost use Rattle.std.specs.Prelude.{◌≡◌, IfOk, length};
 
-use crate::imports::import_words;
-use crate::known::Known;
+use crate::budget::Budget;
+use crate::imports::{import_words, imports_in};
+use crate::known::{IMPORTS, Known, LOCAL, NAMES, TYPES};
 use crate::language::{foreign_words, language_of};
-use crate::names::{NamesAt, names_at, twice_words};
+use crate::names::{Twice, twice_of, twice_words};
 use crate::rules::rule_words;
 use crate::tokens::{grammar_words, token_words};
-use crate::types::{Reference, put_references, type_words};
+use crate::types::{References, Types, references_in, type_words, types_of};
 use proto_base::{Fault, Limits, Place, Spot};
 use std::alloc::{AllocError, Global};
 use std::collections::BTreeMap;
@@ -43,92 +44,87 @@ impl<'s> Words<'s> {
     }
 }
 
-/// The numbers of the passes over all files that tell faults of one file each.
-const LOCAL: u8 = 1;
-
-const IMPORTS: u8 = 2;
-
-const NAMES: u8 = 3;
-
-const TYPES: u8 = 4;
-
-/// The steps of the first of these.
+/// The steps of the pass over files by themselves.
 const TOKENS: u8 = 0;
 
 const GRAMMAR: u8 = 1;
 
 /// What is known of one file in which faults are, beside its text.
 #[derive(Drop)]
-struct Scene<'s> {
+struct Scene<'d, 's> {
     /// What is said of all its faults, where it is written in another language.
     foreign: Option<&'static str>,
     /// What is said of the rules that it breaks by itself.
     rules: BTreeMap<Spot, Words<'s>>,
-    /// The names that it declares, by their places.
-    names: NamesAt,
+    /// The paths that it imports, by their places.
+    imports: BTreeMap<Place, &'d str>,
     /// The types that it spells, by their places.
-    references: BTreeMap<Place, Reference>,
+    references: References<'d>,
 }
 
-impl<'s> Scene<'s> {
-    fn new(alloc: Global) -> Scene<'s> {
+impl<'d, 's> Scene<'d, 's> {
+    fn new(alloc: Global) -> Scene<'d, 's> {
         Scene {
             foreign: None,
             rules: BTreeMap::new(alloc),
-            names: BTreeMap::new(alloc),
+            imports: BTreeMap::new(alloc),
             references: BTreeMap::new(alloc),
         }
     }
+
+    /// Takes in what faults that a file has by itself need.
+    fn put_local(
+        &mut self,
+        alloc: Global,
+        file: File<'s>,
+        fault: &Fault,
+        limits: &Limits,
+    ) -> Result<(), AllocError> {
+        self.foreign = foreign_words(language_of(alloc, file.text, limits)?);
+        if fault.step > GRAMMAR {
+            self.rules = rule_words(alloc, file, limits)?;
+        }
+        Ok(())
+    }
 }
 
-/// What is known of the file of a fault, as far as faults of its pass need it.
-fn scene_of<'s>(
+/// What is known of the file at a position, as far as faults of the pass of this one need it.
+fn scene_of<'d, 's>(
     alloc: Global,
-    known: &Known<'_, 's>,
+    known: &'d Known<'_, 's>,
+    at: Option<usize>,
     fault: &Fault,
-) -> Result<Scene<'s>, AllocError> {
+) -> Result<Scene<'d, 's>, AllocError> {
     let mut scene = Scene::new(alloc);
-    let Some(file) = known.file(fault.file.as_str()) else {
+    let Some(at) = at else {
         return Ok(scene);
     };
-    match fault.pass {
-        LOCAL => {
-            scene.foreign = foreign_words(language_of(alloc, file.text, known.limits)?);
-            if fault.step > GRAMMAR {
-                scene.rules = rule_words(alloc, file, known.limits)?;
-            }
-        }
-        NAMES => {
-            if let Some(desc) = known.desc(file.name) {
-                scene.names = names_at(alloc, desc)?;
-            }
-        }
-        TYPES => {
-            if let Some(desc) = known.desc(file.name) {
-                put_references(alloc, &mut scene.references, desc)?;
-            }
-        }
+    match (fault.pass, known.files.get(at), known.desc_at(at)) {
+        (LOCAL, Some(file), _) => scene.put_local(alloc, *file, fault, known.limits)?,
+        (IMPORTS, _, Some(desc)) => scene.imports = imports_in(alloc, desc)?,
+        (TYPES, _, Some(desc)) => scene.references = references_in(alloc, desc)?,
         _ => {}
     }
     Ok(scene)
 }
 
-/// What is said of a fault that its file has by itself.
+/// What is said of a fault that a file has by itself.
 fn local_words<'s>(
     alloc: Global,
-    known: &Known<'_, 's>,
-    scene: &mut Scene<'s>,
+    file: Option<&File<'s>>,
+    scene: &mut Scene<'_, 's>,
     fault: &Fault,
+    limits: &Limits,
 ) -> Result<Option<Words<'s>>, AllocError> {
     if let Some(foreign) = scene.foreign {
         return Ok(Some(Words::alone(String::from_str(alloc, foreign)?)));
     }
-    let Some(file) = known.file(fault.file.as_str()) else {
+    let Some(File { text, .. }) = file else {
         return Ok(None);
     };
     match fault.step {
-        TOKENS => token_words(alloc, file.text, fault.place, fault.kind),
-        GRAMMAR => grammar_words(alloc, file.text, fault.place, fault.kind, known.limits),
+        TOKENS => token_words(alloc, text, fault.place, fault.kind),
+        GRAMMAR => grammar_words(alloc, text, fault.place, fault.kind, limits),
         _ => {
             let spot = Spot {
                 place: fault.place,
@@ -139,26 +135,71 @@ fn local_words<'s>(
     }
 }
 
-/// What is said of a fault.
-fn words_of<'s>(
-    alloc: Global,
-    known: &mut Known<'_, 's>,
-    scene: &mut Scene<'s>,
-    fault: &Fault,
-) -> Result<Option<Words<'s>>, AllocError> {
-    match fault.pass {
-        LOCAL => local_words(alloc, known, scene, fault),
-        IMPORTS => import_words(alloc, known, fault),
-        NAMES => twice_words(alloc, known, &scene.names, fault),
-        TYPES => type_words(alloc, known, scene.references.get(&fault.place), fault),
-        _ => Ok(None),
+/// What is said of faults, one after the other.
+#[derive(Drop)]
+struct Teller<'d, 'k, 's> {
+    known: &'d Known<'k, 's>,
+    twice: &'d Twice<'s>,
+    types: &'d Types<'s>,
+    budget: Budget,
+    /// The file of the fault before, by its position, and what is known of it.
+    file: Option<usize>,
+    scene: Scene<'d, 's>,
+}
+
+impl<'d, 'k, 's> Teller<'d, 'k, 's> {
+    fn new(
+        alloc: Global,
+        known: &'d Known<'k, 's>,
+        twice: &'d Twice<'s>,
+        types: &'d Types<'s>,
+    ) -> Teller<'d, 'k, 's> {
+        Teller {
+            known,
+            twice,
+            types,
+            budget: Budget::new(),
+            file: None,
+            scene: Scene::new(alloc),
+        }
+    }
+
+    /// What is said of the fault at a position in the list of faults.
+    fn words_of(
+        &mut self,
+        alloc: Global,
+        at: usize,
+        fault: &Fault,
+    ) -> Result<Option<Words<'s>>, AllocError> {
+        let known = self.known;
+        let file = known.position(fault.file.as_str());
+        if file != self.file {
+            self.scene = scene_of(alloc, known, file, fault)?;
+            self.file = file;
+        }
+        match fault.pass {
+            LOCAL => {
+                let file = file.and_then(|at| known.files.get(at));
+                local_words(alloc, file, &mut self.scene, fault, known.limits)
+            }
+            IMPORTS => {
+                let path = self.scene.imports.get(&fault.place).copied();
+                import_words(alloc, known, &mut self.budget, path, fault)
+            }
+            NAMES => twice_words(alloc, self.twice, at, fault),
+            TYPES => {
+                let reference = self.scene.references.get(&fault.place);
+                type_words(alloc, self.types, &mut self.budget, reference, fault)
+            }
+            _ => Ok(None),
+        }
     }
 }
 
-/// What is said of each of these faults, in their order, as far as anything is: they are faults of these files, which stand in the
-/// order of their names, and those of one file stand side by side.
+/// What is said of each of these faults, in their order, as far as anything is: they are faults of one pass over these files, which
+/// stand in the order of their names, and those of one file stand side by side.
 ///
-/// Time grows in proportion to the files and the faults. Similar names are looked for as long as this is so.
+/// Time grows in proportion to the files and the faults. Similar names, and circles, are looked for as long as this is so.
 pub fn words_of_faults<'s>(
     alloc: Global,
     files: &[File<'s>],
@@ -167,16 +208,13 @@ pub fn words_of_faults<'s>(
 ) -> Result<Vec<Option<Words<'s>>>, AllocError>
     ensures { IfOk result (λ words. length words.items ≡ length faults.now) }
 {
-    let mut known = Known::new(alloc, files, faults, limits)?;
+    let known = Known::new(alloc, files, faults, limits)?;
+    let twice = twice_of(alloc, &known, faults)?;
+    let types = types_of(alloc, &known)?;
+    let mut teller = Teller::new(alloc, &known, &twice, &types);
     let mut words = Vec::with_capacity(alloc, faults.len())?;
-    let mut scene = Scene::new(alloc);
-    let mut file = "";
-    for fault in faults {
-        if fault.file.as_str() != file {
-            scene = scene_of(alloc, &known, fault)?;
-            file = fault.file.as_str();
-        }
-        words.push(words_of(alloc, &mut known, &mut scene, fault)?)?;
+    for (at, fault) in faults.iter().enumerate() {
+        words.push(teller.words_of(alloc, at, fault)?)?;
     }
     Ok(words)
 }

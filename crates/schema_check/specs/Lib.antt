@@ -1,5 +1,6 @@
 pub mod Added
 pub mod Escapes
+pub mod Open
 pub mod Reports
 pub mod Runs
 pub mod Texts

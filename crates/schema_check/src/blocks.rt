@@ -1,22 +1,23 @@
 //! What is said of one fault.
 
-ghost use Rattle.std.specs.Prelude.{◌≡◌, ◌<◌, ◌≤◌, ◌-◌, ◌^◌, ◌∷◌, ◌++◌, [], codes, IfOk, OnOk, length, string_bytes};
+ghost use Rattle.std.specs.Prelude.{◌≡◌, ◌<◌, ◌≤◌, ◌-◌, ◌^◌, ◌∷◌, ◌++◌, [], codes, IfOk, IfSome, List, OnOk, length, string_bytes};
 ghost use Rattle.fault_report.specs.declared.form.Form.TheVariants as forms;
 ghost use Rattle.proto_base.specs.Kind.{name_of};
-ghost use Rattle.proto_base.specs.Lines.{column_at, line_at};
-ghost use Rattle.proto_compile.specs.Sources.{text_of};
+ghost use Rattle.proto_base.specs.declared.limits.Limits.{Limits};
+ghost use Rattle.proto_compile.specs.declared.source.Source.{Source};
 ghost use Rattle.schema_check.specs.Added.{AddsBlock, AddsMore};
+ghost use Rattle.schema_check.specs.Open.{IsOpen, IsPageOf};
 ghost use Rattle.schema_check.specs.Reports.{IsHeadOf, IsListText, IsPlaceOf, gcc_text, github_text, json_row, place_text, slash_behind};
-ghost use Rattle.schema_check.specs.Told.{LiesWithin};
 ghost use Rattle.schema_failure.specs.Lines.{shown_name};
 ghost use Rattle.schema_compile.specs.Placed.{source_named};
+ghost use Rattle.schema_sources.specs.Places.{folder_in};
+ghost use Rattle.schema_sources.specs.declared.places.Places.{Places};
 
 use crate::escaped::{CommandMessage, CommandProperty, JsonText};
 use crate::message::Message;
-use fault_report::{Excerpt, Form, excerpt_at};
-use proto_base::{Fault, Kind, Limits, line_column};
-use proto_compile::Source;
-use schema_compile::source_named;
+use crate::pages::{OpenFile, Page};
+use fault_report::{Excerpt, Form, Line, excerpt_at};
+use proto_base::{Fault, Kind};
 use schema_explanation::Topic;
 use schema_failure::Shown;
 use schema_sources::Places;
@@ -129,45 +130,41 @@ fn json_row(
     )
 }
 
-/// What is said of a fault in a file: its line and, for people, the rows of its text around the place.
+/// What is said of a fault in a file, of whose text this is the page: its line and, for people, the rows of the text around the
+/// place.
 fn place_of(
     alloc: Global,
     form: Form,
-    places: &Places,
-    source: &Source,
+    file: &OpenFile<'_, '_, '_>,
+    page: &Page<'_>,
     fault: &Fault,
     message: &Message,
-    limits: &Limits,
 ) -> Result<String, AllocError>
-    requires within { fault.now.place.offset ≤ length (text_of source.now) }
+    requires within { fault.now.place.offset ≤ length page.now.lines.text.now }
     requires short { fault.now.place.offset < 2 ^ 32 - 1 }
-    ensures { IfOk result (λ said. IsPlaceOf form limits.now places.now fault.now source.now
-        (string_bytes said)) }
+    ensures { (limits : Limits) (places : Places) (s : Source) → IsPageOf form limits s page.now
+        → file.now.name.now ≡ string_bytes fault.now.file
+        → file.now.folder.now ≡ folder_in places (string_bytes fault.now.file)
+        → IfOk result (λ said. IsPlaceOf form limits places fault.now s (string_bytes said)) }
 {
-    let file = fault.file.as_str();
     let path = Path {
-        folder: places.folder_of(file),
-        file,
+        folder: file.folder,
+        file: file.name,
     };
     let kind = fault.kind;
-    let (line, column) = line_column(source.text, fault.place);
     let said = message.line.as_str();
+    let Line { number, column, .. } = page.lines.around(fault.place);
     match form {
         Form::Text => {
-            let excerpt = excerpt_at(alloc, source.text, fault.place, limits)?;
+            let excerpt = excerpt_at(alloc, &page.lines, &page.tokens, fault.place)?;
             place_text(alloc, path, kind, message.row.as_str(), &excerpt)
         }
-        Form::Gcc => gcc_text(alloc, path, line, column, said, kind),
-        Form::Github => github_text(alloc, path, line, column, said, kind),
-        Form::Json => json_row(
-            alloc,
-            path,
-            line,
-            column,
-            said,
-            fault,
-            message.members.as_str(),
-        ),
+        Form::Gcc => gcc_text(alloc, path, number, column, said, kind),
+        Form::Github => github_text(alloc, path, number, column, said, kind),
+        Form::Json => {
+            let more = message.members.as_str();
+            json_row(alloc, path, number, column, said, fault, more)
+        }
     }
 }
 
@@ -200,22 +197,24 @@ fn list_text(
     }
 }
 
-/// What is said of a fault, whose message this is.
+/// What is said of a fault, whose message this is, in a file that is open.
 fn head_of(
     alloc: Global,
     form: Form,
     places: &Places,
-    sources: &[Source],
+    file: &OpenFile<'_, '_, '_>,
     fault: &Fault,
     message: &Message,
-    limits: &Limits,
 ) -> Result<String, AllocError>
-    requires { LiesWithin sources.now fault.now }
-    ensures { IfOk result (λ said. IsHeadOf form limits.now places.now fault.now
-        (source_named sources.now (string_bytes fault.now.file)) (string_bytes said)) }
+    requires within { IfSome file.now.page (λ page. fault.now.place.offset ≤ length page.lines.text.now) }
+    requires short { fault.now.place.offset < 2 ^ 32 - 1 }
+    ensures { (limits : Limits) (sources : List Source)
+        → IsOpen form limits places.now sources (string_bytes fault.now.file) file.now
+        → IfOk result (λ said. IsHeadOf form limits places.now fault.now
+        (source_named sources (string_bytes fault.now.file)) (string_bytes said)) }
 {
-    match source_named(sources, fault.file.as_str()) {
-        Some(source) => place_of(alloc, form, places, source, fault, message, limits),
+    match &file.page {
+        Some(page) => place_of(alloc, form, file, page, fault, message),
         None => list_text(alloc, form, places.root, fault, message),
     }
 }
@@ -235,24 +234,26 @@ fn put_cure(report: &mut String, form: Form, kind: Kind, is_first: bool) -> Resu
     }
 }
 
-/// Puts what is said of a fault, whose message this is. For people it is followed by what its kind means, and its cure, where it is
-/// the first of its kind.
+/// Puts what is said of a fault, whose message this is, in a file that is open. For people it is followed by what its kind means, and
+/// its cure, where it is the first of its kind.
 pub(crate) fn put_block(
     alloc: Global,
     report: &mut String,
     form: Form,
     places: &Places,
-    sources: &[Source],
+    file: &OpenFile<'_, '_, '_>,
     fault: &Fault,
     message: &Message,
     is_first: bool,
-    limits: &Limits,
 ) -> Result<(), AllocError>
-    requires { LiesWithin sources.now fault.now }
-    ensures { OnOk result (AddsBlock form limits.now places.now sources.now fault.now (string_bytes report.old)
+    requires within { IfSome file.now.page (λ page. fault.now.place.offset ≤ length page.lines.text.now) }
+    requires short { fault.now.place.offset < 2 ^ 32 - 1 }
+    ensures { (limits : Limits) (sources : List Source)
+        → IsOpen form limits places.now sources (string_bytes fault.now.file) file.now
+        → OnOk result (AddsBlock form limits places.now sources fault.now (string_bytes report.old)
         (string_bytes report.new)) }
 {
-    let head = head_of(alloc, form, places, sources, fault, message, limits)?;
+    let head = head_of(alloc, form, places, file, fault, message)?;
     report.push_str(head.as_str())?;
     put_cure(report, form, fault.kind, is_first)
 }

@@ -5,6 +5,7 @@ mod blocks;
 mod check;
 mod escaped;
 mod message;
+mod pages;
 mod report;
 mod told;
 mod written;

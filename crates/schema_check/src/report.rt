@@ -1,13 +1,17 @@
 //! What is said of all faults.
 
-ghost use Rattle.std.specs.Prelude.{◌≡◌, ◌++◌, ◌-◌, ◌^◌, IfOk, OnOk, length, string_bytes};
+ghost use Rattle.std.specs.Prelude.{◌≡◌, ◌-◌, ◌<◌, ◌≤◌, ◌^◌, IfOk, IfSome, List, OnOk, length, string_bytes};
+ghost use Rattle.proto_base.specs.declared.limits.Limits.{Limits};
+ghost use Rattle.proto_compile.specs.declared.source.Source.{Source};
 ghost use Rattle.schema_check.specs.Added.{AddsBlock};
+ghost use Rattle.schema_check.specs.Open.{IsOpen};
 ghost use Rattle.schema_check.specs.Reports.{IsReport, empty_text, end_of, faulty_text, plural, sound_text, summary_of, unseen_behind, unseen_text};
-ghost use Rattle.schema_check.specs.Told.{ArePlaced, LiesWithin};
+ghost use Rattle.schema_check.specs.Told.{ArePlaced};
 ghost use Rattle.schema_failure.specs.Lines.{shown_name};
 
 use crate::blocks::put_block;
-use crate::message::message_of;
+use crate::message::{OtherLines, message_of};
+use crate::pages::{Named, OpenFile, by_name, file_of, open_file};
 use fault_report::Form;
 use fault_words::Words;
 use proto_base::{Fault, Limits};
@@ -15,7 +19,7 @@ use proto_compile::Source;
 use schema_failure::Shown;
 use schema_sources::Places;
 use std::alloc::{AllocError, Global};
-use std::collections::BTreeSet;
+use std::collections::{BTreeSet, HashMap};
 
 /// What ends the word for so many things.
 fn plural(count: usize) -> &'static str
@@ -106,26 +110,28 @@ fn end_of(
     }
 }
 
-/// Puts what is said of a fault, of which these words are known, if any are.
-fn put_said(
+/// Puts what is said of a fault in a file that is open, of which these words are known, if any are.
+fn put_said<'s>(
     alloc: Global,
     report: &mut String,
     form: Form,
     places: &Places,
-    sources: &[Source],
+    named: &Named<'s>,
+    others: &mut OtherLines<'s>,
+    file: &OpenFile<'_, '_, 's>,
     fault: &Fault,
     words: &Option<Words<'_>>,
     is_first: bool,
-    limits: &Limits,
 ) -> Result<(), AllocError>
-    requires { LiesWithin sources.now fault.now }
-    ensures { OnOk result (AddsBlock form limits.now places.now sources.now fault.now (string_bytes report.old)
+    requires within { IfSome file.now.page (λ page. fault.now.place.offset ≤ length page.lines.text.now) }
+    requires short { fault.now.place.offset < 2 ^ 32 - 1 }
+    ensures { (limits : Limits) (sources : List Source)
+        → IsOpen form limits places.now sources (string_bytes fault.now.file) file.now
+        → OnOk result (AddsBlock form limits places.now sources fault.now (string_bytes report.old)
         (string_bytes report.new)) }
 {
-    let message = message_of(alloc, places, sources, fault, words)?;
-    put_block(
-        alloc, report, form, places, sources, fault, &message, is_first, limits,
-    )
+    let message = message_of(alloc, form, places, named, others, file, fault, words)?;
+    put_block(alloc, report, form, places, file, fault, &message, is_first)
 }
 
 /// What is said of the faults of sources that lie so, of each of which there are words in a list of as many, where anything is known: in
@@ -145,20 +151,25 @@ pub fn report_of(
     ensures { IfOk result (λ report. IsReport form limits.now places.now sources.now faults.now
         (string_bytes report)) }
 {
+    let named = by_name(alloc, sources)?;
+    let mut others = HashMap::new(alloc);
+    let mut file = open_file(alloc, form, places, &named, "", limits)?;
     let mut report = String::new(alloc);
     let mut told = BTreeSet::new(alloc);
     for (at, fault) in faults.iter().enumerate() {
+        file = file_of(alloc, form, places, &named, file, fault, limits)?;
         let is_first = told.insert(fault.kind)?;
         put_said(
             alloc,
             &mut report,
             form,
             places,
-            sources,
+            &named,
+            &mut others,
+            &file,
             fault,
             &words[at],
             is_first,
-            limits,
         )?;
     }
     let end = end_of(alloc, form, places.root, faults, sources.len())?;

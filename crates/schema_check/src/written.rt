@@ -10,6 +10,7 @@ use proto_compile::Source;
 use source_folder::{FolderFault, NamedText};
 use source_search::Shelf;
 use std::alloc::{AllocError, Global};
+use std::collections::HashSet;
 
 /// Whether two texts have as many bytes, and line ends at the same places.
 fn have_same_lines(text: &[u8], shown: &[u8]) -> bool
@@ -41,21 +42,18 @@ fn written_text<S: Shelf>(
     }
 }
 
-/// The text of a source in which a fault is, as it stands on a shelf now, if that has its lines: a file may have changed since it was
-/// read. Else the text as it is.
+/// The text of a source as it stands on a shelf now, where a fault is in it, if that has its lines: a file may have changed since it
+/// was read. Else the text as it is.
 fn shown_text<S: Shelf>(
     alloc: Global,
     shelf: &S,
     source: &Source,
-    faults: &[Fault],
+    is_faulty: bool,
     limits: &Limits,
 ) -> Result<Vec<u8>, AllocError>
     ensures { IfOk result (λ text. line_ends text.items ≡ line_ends (text_of source.now)) }
 {
-    if faults
-        .iter()
-        .any(|fault| fault.file.as_str() == source.name)
-    {
+    if is_faulty {
         if let Some(written) = written_text(shelf, source, limits)? {
             if have_same_lines(source.text, &written) {
                 return Ok(written);
@@ -63,6 +61,15 @@ fn shown_text<S: Shelf>(
         }
     }
     Vec::from_slice(alloc, source.text)
+}
+
+/// The names of the files in which faults are.
+fn faulty_names<'f>(alloc: Global, faults: &'f [Fault]) -> Result<HashSet<&'f str>, AllocError> {
+    let mut names = HashSet::new(alloc);
+    for fault in faults {
+        names.insert(fault.file.as_str())?;
+    }
+    Ok(names)
 }
 
 /// The texts of sources as they are shown: those in which faults are as they are written.
@@ -75,11 +82,13 @@ pub(crate) fn shown_texts<S: Shelf>(
 ) -> Result<Vec<NamedText>, AllocError>
     ensures { IfOk result (λ texts. AreTextsFor sources.now texts.items) }
 {
+    let faulty = faulty_names(alloc, faults)?;
     let mut texts = Vec::with_capacity(alloc, sources.len())?;
     for source in sources {
+        let is_faulty = faulty.contains(source.name);
         texts.push(NamedText {
             name: String::from_str(alloc, source.name)?,
-            text: shown_text(alloc, shelf, source, faults, limits)?,
+            text: shown_text(alloc, shelf, source, is_faulty, limits)?,
         })?;
     }
     Ok(texts)

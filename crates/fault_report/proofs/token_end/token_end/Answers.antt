@@ -1,19 +1,9 @@
-use Rattle.std.proofs.Common.{◌∙◌, refl, ap}
-use Rattle.fault_report.specs.Tokens.{end_among}
-use Rattle.fault_report.proofs.Spelled.{no_memory_at}
+use Rattle.fault_report.proofs.Spelled.{end_told, end_untold}
 use Rattle.fault_report.proofs.token_end.token_end.Goals as goal
 
-pub returns-in-Ok : goal.returns-in-Ok
-returns-in-Ok c = record {
-  spelled = λ ts is. c.end_among.ensures
-      ∙ ap (λ us. end_among us c.args.place.offset) (c.in-Ok.ensures.every_spelling ts is);
-  none = λ at kind fault. absurd (c.in-Ok.ensures.every_fault at kind fault);
-}
+pub returns-in-Some : goal.returns-in-Some
+returns-in-Some c = λ limit text are.
+    end_told limit text c.args.place.offset c.args.tokens.now c.in-Some.tokens _ c.in-Some.is are c.end_among.ensures
 
-pub returns-in-Err-At : goal.returns-in-Err-At
-returns-in-Err-At c = record {
-  spelled = λ ts is.
-      absurd (no_memory_at c.in-Err-At.field-0-0 c.in-Err-At.field-0-1 c.in-Err-At.field-0 c.in-Err-At.field-0-is
-      (c.in-Err-At.ensures.every_spelling ts is));
-  none = λ at kind fault. refl;
-}
+pub returns-in-None : goal.returns-in-None
+returns-in-None c = λ limit text are. end_untold limit text c.args.place.offset c.args.tokens.now c.in-None.is are
