@@ -1,3 +1,4 @@
+pub mod Opening
 pub mod Reporting
 pub mod Running
 pub mod Showing

@@ -1,6 +1,7 @@
 -- Files that are open while their faults are told.
 use Rattle.std.proofs.Common.{◌≡◌, ◌∙◌, sym, refl, ℕ, ◌+◌, ◌<◌, ◌≤◌, zero, suc, Bool, true, false, cond, List, [], ◌∷◌, ◌++◌, Option, Some, None, Result, Ok, Err, IfOk, Contains, ap, subst, arith, get_or, length, string_bytes, take}
-use Rattle.std.specs.Prelude.{IfSome, bytes_eq}
+use Rattle.std.specs.Prelude.{IfSome, bytes_eq, codes}
+use Rattle.std.specs.Fmt.{decimal}
 use Rattle.std.specs.HashMap.{get_by}
 use Rattle.std.specs.List.{find}
 use Rattle.std.specs.Option.{is_some, option_or}
@@ -12,6 +13,7 @@ use Rattle.fault_report.specs.Tokens.{AreTokens}
 use Rattle.fault_report.specs.declared.excerpt.Excerpt.{Excerpt}
 use Rattle.fault_report.specs.declared.form.Form.{Form}
 use Rattle.fault_report.specs.declared.form.Form.TheVariants.{Text, Gcc, Github, Json}
+use Rattle.proto_base.specs.Kind as kinds
 use Rattle.proto_base.specs.Limits.{limit_of}
 use Rattle.proto_base.specs.Lines.{column_at, line_at}
 use Rattle.proto_base.specs.declared.fault.Fault.{Fault}
@@ -19,6 +21,7 @@ use Rattle.proto_base.specs.declared.limits.Limit.TheVariants.{FileBytes}
 use Rattle.proto_base.specs.declared.limits.Limits.{Limits}
 use Rattle.proto_compile.specs.Sources.{name_of, text_of}
 use Rattle.proto_compile.specs.declared.source.Source.{Source}
+use Rattle.schema_check.specs.Escapes.{json_text, message_text}
 use Rattle.schema_check.specs.Open.{FindsSources, IsOpen, IsPageIf, IsPageOf, Named}
 use Rattle.schema_check.specs.Reports.{IsHeadOf, IsListText, IsPlaceOf, gcc_text, github_text, json_row, place_text, slash_behind}
 use Rattle.schema_check.specs.Told.{LiesWithin}
@@ -31,12 +34,15 @@ use Rattle.schema_sources.specs.declared.places.Places.{Places}
 
 -- ---- sources by their names
 
+abbrev pub no_source : Source
+no_source = record { name = record { ref_ptr = (0, 0); now = [] }; text = record { ref_ptr = (0, 0); now = [] } }
+
 same_bytes : (xs ys : List ℕ) → bytes_eq xs ys ≡ true → xs ≡ ys
 same_bytes xs ys = (bytes_eq-Decides xs ys).0
 
 -- what is found is one of the sources, and has the name
-found_first : (b : Bool) (t : Source) (sources : List Source) (name : List ℕ) (s : Source) → b ≡ bytes_eq (name_of t) name
-    → cond b (Some t) (source_named sources name) ≡ Some s
+found_first : (b : Bool) (t : Source) (sources : List Source) (name : List ℕ) (s : Source)
+    → b ≡ bytes_eq (name_of t) name → cond b (Some t) (source_named sources name) ≡ Some s
     → ((u : Source) → source_named sources name ≡ Some u → Contains sources u × (name_of u ≡ name))
     → Contains (t ∷ sources) s × (name_of s ≡ name)
 found_first true t sources name s test is rest =
@@ -47,16 +53,15 @@ found_first false t sources name s test is rest =
 found_in : (sources : List Source) (name : List ℕ) (s : Source) → source_named sources name ≡ Some s
     → Contains sources s × (name_of s ≡ name)
 found_in [] name s is = cc
-found_in (t ∷ sources) name s is = found_first (bytes_eq (name_of t) name) t sources name s refl is (found_in sources name)
+found_in (t ∷ sources) name s is =
+    found_first (bytes_eq (name_of t) name) t sources name s refl is (found_in sources name)
 
 -- what is found among one more
-found_more : (sources : List Source) (k : ℕ) (s : Source) (name : List ℕ) → k < length sources → s ≡ get_or sources k s
-    → source_named (take (k + 1) sources) name
-    ≡ option_or (source_named (take k sources) name) (cond (bytes_eq (name_of s) name) (Some s) None)
-found_more sources k s name h is =
-    let P : Source → Type 0 = λ t. source_named (take (k + 1) sources) name
-    ≡ option_or (source_named (take k sources) name) (cond (bytes_eq (name_of t) name) (Some t) None) in
-    subst P (sym is) (rw (take_more sources k s h) (find-append (λ t. bytes_eq (name_of t) name) (take k sources) _))
+module _ (sources : List Source) (k : ℕ) (d : Source) (h : k < length sources) where
+  found_more : (name : List ℕ) → source_named (take (k + 1) sources) name
+      ≡ option_or (source_named (take k sources) name) (cond (bytes_eq (name_of (get_or sources k d)) name)
+      (Some (get_or sources k d)) None)
+  found_more name = rw (take_more sources k d h) (find-append (λ t. bytes_eq (name_of t) name) (take k sources) _)
 
 -- a name that is there already
 skip_by : (found : Option Source) (b : Bool) (s : Source) → (b ≡ true → is_some found ≡ true)
@@ -65,14 +70,16 @@ skip_by (Some t) b s there = refl
 skip_by None true s there = let clash : false ≡ true = there refl in cc
 skip_by None false s there = refl
 
-pub named_skip : (sources : List Source) (k : ℕ) (s : Source) (named : Named) → k < length sources
-    → s ≡ get_or sources k s → FindsSources (take k sources) named
-    → is_some (get_by (λ q. bytes_eq (name_of s) q.now) named) ≡ true → FindsSources (take (k + 1) sources) named
-named_skip sources k s named h is finds there name =
+pub named_skip : (sources : List Source) (k : ℕ) (d : Source) (named : Named) → k < length sources
+    → FindsSources (take k sources) named
+    → is_some (get_by (λ q. bytes_eq (name_of (get_or sources k d)) q.now) named) ≡ true
+    → FindsSources (take (k + 1) sources) named
+named_skip sources k d named h finds there name =
+    let s = get_or sources k d in
     let P : List ℕ → Type 0 = λ xs. is_some (source_named (take k sources) xs) ≡ true in
-    let at : P (name_of s) = rw (finds (name_of s)) at there in
+    let at : P (name_of s) = subst (λ (o : Option Source). is_some o ≡ true) (finds (name_of s)) there in
     finds name ∙ skip_by (source_named (take k sources) name) (bytes_eq (name_of s) name) s
-    (λ same. subst P (same_bytes (name_of s) name same) at) ∙ sym (found_more sources k s name h is)
+    (λ same. subst P (same_bytes (name_of s) name same) at) ∙ sym (found_more sources k d h name)
 
 -- and one that is put
 put_by : (found : Option Source) (b : Bool) (s : Source) → (b ≡ true → is_some found ≡ false)
@@ -82,18 +89,19 @@ put_by (Some t) false s lacks = refl
 put_by None true s lacks = refl
 put_by None false s lacks = refl
 
-pub named_more : (sources : List Source) (k : ℕ) (s : Source) (old new : Named) → k < length sources
-    → s ≡ get_or sources k s → FindsSources (take k sources) old
-    → is_some (get_by (λ q. bytes_eq (name_of s) q.now) old) ≡ false
-    → ((name : List ℕ) → get_by (λ q. bytes_eq name q.now) new
-    ≡ cond (bytes_eq (name_of s) name) (Some s) (get_by (λ q. bytes_eq name q.now) old))
+pub named_more : (sources : List Source) (k : ℕ) (d : Source) (old new : Named) → k < length sources
+    → FindsSources (take k sources) old
+    → is_some (get_by (λ q. bytes_eq (name_of (get_or sources k d)) q.now) old) ≡ false
+    → ((name : List ℕ) → get_by (λ q. bytes_eq name q.now) new ≡ cond (bytes_eq (name_of (get_or sources k d)) name)
+    (Some (get_or sources k d)) (get_by (λ q. bytes_eq name q.now) old))
     → FindsSources (take (k + 1) sources) new
-named_more sources k s old new h is finds lacks put name =
+named_more sources k d old new h finds lacks put name =
+    let s = get_or sources k d in
     let P : List ℕ → Type 0 = λ xs. is_some (source_named (take k sources) xs) ≡ false in
-    let at : P (name_of s) = rw (finds (name_of s)) at lacks in
+    let at : P (name_of s) = subst (λ (o : Option Source). is_some o ≡ false) (finds (name_of s)) lacks in
     put name ∙ ap (λ (o : Option Source). cond (bytes_eq (name_of s) name) (Some s) o) (finds name)
     ∙ put_by (source_named (take k sources) name) (bytes_eq (name_of s) name) s
-    (λ same. subst P (same_bytes (name_of s) name same) at) ∙ sym (found_more sources k s name h is)
+    (λ same. subst P (same_bytes (name_of s) name same) at) ∙ sym (found_more sources k d h name)
 
 -- ---- a page, and what is said of a fault on it
 
@@ -106,8 +114,8 @@ within_page form limits (Some s) None place is within = absurd is
 within_page form limits (Some s) (Some page) place is within = rw is.text (within s refl)
 
 -- a fault that lies within its source lies on the page
-pub open_within : (form : Form) (limits : Limits) (places : Places) (sources : List Source) (f : Fault) (file : OpenFile)
-    → IsOpen form limits places sources (string_bytes f.file) file → LiesWithin sources f
+pub open_within : (form : Form) (limits : Limits) (places : Places) (sources : List Source) (f : Fault)
+    (file : OpenFile) → IsOpen form limits places sources (string_bytes f.file) file → LiesWithin sources f
     → IfSome file.page (λ p. f.place.offset ≤ length p.lines.text.now)
 open_within form limits places sources f file is lies =
     within_page form limits (source_named sources (string_bytes f.file)) file.page f.place.offset is.page_is
@@ -127,8 +135,8 @@ module _ {T E : Type 0} (bytes : T → List ℕ) (form : Form) (limits : Limits)
   head_out (Some s) r is listed = absurd is
 
 -- a file that is open as its fault asks
-module _ {T E : Type 0} (bytes : T → List ℕ) (limits : Limits) (places : Places) (f : Fault) (s : Source) (file : OpenFile)
-    (page : Page) (name : file.name.now ≡ string_bytes f.file)
+module _ {T E : Type 0} (bytes : T → List ℕ) (limits : Limits) (places : Places) (f : Fault) (s : Source)
+    (file : OpenFile) (page : Page) (name : file.name.now ≡ string_bytes f.file)
     (folder : file.folder.now ≡ folder_in places (string_bytes f.file)) where
   pub placed_text : (about : List ℕ) (e : Excerpt) (r : Result T E) → IsPageOf Text limits s page
       → ((limit : ℕ) → AreTokens limit page.lines.text.now page.tokens
@@ -161,9 +169,27 @@ module _ {T E : Type 0} (bytes : T → List ℕ) (limits : Limits) (places : Pla
 
   pub placed_json : (line column : ℕ) (message more : List ℕ) (r : Result T E) → IsPageOf Json limits s page
       → line ≡ line_at page.lines.text.now f.place.offset → column ≡ column_at page.lines.text.now f.place.offset
-      → IfOk r (λ t. bytes t ≡ json_row file.folder.now (slash_behind file.folder.now) file.name.now line column message f
-      more)
+      → IfOk r (λ t. bytes t ≡ json_row file.folder.now (slash_behind file.folder.now) file.name.now line column
+      message f more)
       → IfOk r (λ t. IsPlaceOf Json limits places f s (bytes t))
   placed_json line column message more (Ok t) are at_line at_column is =
       (message, more, rw (name, folder, at_line, at_column, are.text) at is)
   placed_json line column message more (Err x) are at_line at_column is = tt
+
+-- ---- one of the whole list
+
+module _ {T E : Type 0} (bytes : T → List ℕ) (root : List ℕ) (f : Fault) (message : List ℕ) where
+  pub listed_github : (r : Result T E)
+      → IfOk r (λ t. bytes t
+      ≡ codes "::error title=" ++ (kinds.name_of f.kind ++ (codes "::" ++ (message_text message ++ 10 ∷ []))))
+      → IfOk r (λ t. IsListText Github root f (bytes t))
+  listed_github (Ok t) is = (message, is)
+  listed_github (Err e) is = tt
+
+  pub listed_json : (r : Result T E)
+      → IfOk r (λ t. bytes t ≡ codes "{\"file\":null,\"path\":\"" ++ (json_text root ++ (codes "\",\"pass\":"
+      ++ (decimal f.pass ++ (codes ",\"kind\":\"" ++ (kinds.name_of f.kind ++ (codes "\",\"number\":"
+      ++ (decimal (kinds.number_of f.kind) ++ (codes ",\"message\":\"" ++ (json_text message ++ codes "\"}\n"))))))))))
+      → IfOk r (λ t. IsListText Json root f (bytes t))
+  listed_json (Ok t) is = (message, is)
+  listed_json (Err e) is = tt

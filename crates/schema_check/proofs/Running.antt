@@ -23,8 +23,8 @@ abbrev failed : Failure → Result Verdict Failure
 failed f = Err f
 
 -- what a `?` hands on of a writing that failed
-pub unwritten : (options : CustomOptions) (form : Form) (limits : Limits) (places : Places) (texts : List NamedText) (old new : Writes) (judged : Verdict)
-    (report : List ℕ) (fault : IoFault) (r : Result Verdict Failure) → IsErrAnd r (λ e. e ≡ of_exchange fault)
+pub unwritten : (options : CustomOptions) (form : Form) (limits : Limits) (places : Places) (texts : List NamedText)
+    (old new : Writes) (judged : Verdict) (report : List ℕ) (fault : IoFault) (r : Result Verdict Failure) → IsErrAnd r (λ e. e ≡ of_exchange fault)
     → IsFound options form limits places texts judged report → IsWriteRun {A = Unit {0}} old new report (Err fault)
     → IsCheckRun options form limits places texts old new r
 unwritten options form limits places texts old new judged report fault (Ok a) handed is run = absurd handed

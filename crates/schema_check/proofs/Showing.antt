@@ -69,8 +69,8 @@ shown_lines sources shown texts are for =
     ends_of_sources shown ∙ ap (λ bytes. map line_ends bytes) are.bytes ∙ sym (ends_of_texts texts) ∙ for.1
 
 -- a report over the sources as they are shown
-pub shown_so : {T E : Type 0} (bytes : T → List ℕ) (options : CustomOptions) (form : Form) (limits : Limits) (places : Places)
-    (sources shown : List Source) (faults : List Fault) (r : Result T E) → options ≡ Skip
+pub shown_so : {T E : Type 0} (bytes : T → List ℕ) (options : CustomOptions) (form : Form) (limits : Limits)
+    (places : Places) (sources shown : List Source) (faults : List Fault) (r : Result T E) → options ≡ Skip
     → map name_of shown ≡ map name_of sources → map line_ends_of shown ≡ map line_ends_of sources
     → IfOk r (λ t. IsReport form limits places shown faults (bytes t))
     → IfOk r (λ t. IsShownReport options form limits places sources faults (bytes t))

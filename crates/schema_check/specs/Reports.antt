@@ -27,10 +27,14 @@ use Rattle.schema_sources.specs.declared.places.Places.{Places}
 abbrev pub slash_behind : List ℕ → List ℕ
 slash_behind root = if ends_with nat_eq root (47 ∷ []) then [] else 47 ∷ []
 
--- ROOT/FILE:LINE:COLUMN: KIND, what it is about, and the rows of the text around the place
+-- ROOT/FILE:LINE:COLUMN: KIND
+abbrev pub place_line : (root slash file : List ℕ) → Kind → Excerpt → List ℕ
+place_line root slash file kind e = root ++ (slash ++ (file ++ (codes ":" ++ (decimal e.number ++ (codes ":"
+    ++ (decimal e.column ++ (codes ": " ++ (name_of kind ++ codes "\n"))))))))
+
+-- this line, what the fault is about, and the rows of the text around the place
 abbrev pub place_text : (root slash file : List ℕ) → Kind → (about : List ℕ) → Excerpt → List ℕ
-place_text root slash file kind about e = root ++ (slash ++ (file ++ (codes ":" ++ (decimal e.number ++ (codes ":"
-    ++ (decimal e.column ++ (codes ": " ++ (name_of kind ++ (codes "\n" ++ (about ++ (rows_of e ++ 10 ∷ [])))))))))))
+place_text root slash file kind about e = place_line root slash file kind e ++ (about ++ (rows_of e ++ codes "\n"))
 
 -- ROOT/FILE:LINE:COLUMN: error: MESSAGE [KIND]
 abbrev pub gcc_text : (root slash file : List ℕ) → (line column : ℕ) → (message : List ℕ) → Kind → List ℕ
@@ -43,14 +47,22 @@ github_text root slash file line column message kind = codes "::error file=" ++ 
     ++ (property_text file ++ (codes ",line=" ++ (decimal line ++ (codes ",col=" ++ (decimal column ++ (codes ",title="
     ++ (name_of kind ++ (codes "::" ++ (message_text message ++ 10 ∷ [])))))))))))
 
+-- the members that say where a fault stands
+abbrev pub json_place : (root slash file : List ℕ) → (line column : ℕ) → List ℕ
+json_place root slash file line column = codes "\"file\":\"" ++ (json_text file ++ (codes "\",\"path\":\""
+    ++ (json_text root ++ (slash ++ (json_text file ++ (codes "\",\"line\":" ++ (decimal line ++ (codes ",\"column\":"
+    ++ decimal column))))))))
+
+-- and those that say what it is
+abbrev pub json_fault : Fault → List ℕ
+json_fault f = codes "\"place\":" ++ (decimal f.place.offset ++ (codes ",\"pass\":" ++ (decimal f.pass
+    ++ (codes ",\"kind\":\"" ++ (name_of f.kind ++ (codes "\",\"number\":" ++ decimal (number_of f.kind)))))))
+
 -- an object of these members; the last ones are the column in characters, and the places of what else it is about
 abbrev pub json_row : (root slash file : List ℕ) → (line column : ℕ) → (message : List ℕ) → Fault → (more : List ℕ)
     → List ℕ
-json_row root slash file line column message f more = codes "{\"file\":\"" ++ (json_text file ++ (codes "\",\"path\":\""
-    ++ (json_text root ++ (slash ++ (json_text file ++ (codes "\",\"line\":" ++ (decimal line ++ (codes ",\"column\":"
-    ++ (decimal column ++ (codes ",\"place\":" ++ (decimal f.place.offset ++ (codes ",\"pass\":" ++ (decimal f.pass
-    ++ (codes ",\"kind\":\"" ++ (name_of f.kind ++ (codes "\",\"number\":" ++ (decimal (number_of f.kind)
-    ++ (codes ",\"message\":\"" ++ (json_text message ++ (codes "\"" ++ (more ++ codes "}\n")))))))))))))))))))))
+json_row root slash file line column message f more = codes "{" ++ (json_place root slash file line column ++ (codes ","
+    ++ (json_fault f ++ (codes ",\"message\":\"" ++ (json_text message ++ (codes "\"" ++ (more ++ codes "}\n")))))))
 
 -- what is said of a fault in a file, below the folder in which this lies
 abbrev pub IsPlaceOf : Form → Limits → Places → Fault → Source → List ℕ → Type 0
@@ -71,7 +83,8 @@ IsPlaceOf Json limits places f s said = let folder = folder_in places (string_by
 
 -- ROOT: KIND, and what it is about
 abbrev pub IsListText : Form → List ℕ → Fault → List ℕ → Type 0
-IsListText Text root f said = (about : List ℕ) × (said ≡ shown_name root ++ (codes ": " ++ (name_of f.kind ++ (codes "\n" ++ about))))
+IsListText Text root f said = (about : List ℕ)
+    × (said ≡ shown_name root ++ (codes ": " ++ (name_of f.kind ++ (codes "\n" ++ about))))
 IsListText Gcc root f said = (message : List ℕ)
     × (said ≡ shown_name root ++ (codes ": error: " ++ (message ++ (codes " [" ++ (name_of f.kind ++ codes "]\n")))))
 IsListText Github root f said = (message : List ℕ)
@@ -123,10 +136,9 @@ summary_of root (suc faults) files = faulty_text (suc faults) (plural (suc fault
 
 -- what the passes behind that of the first fault look at
 abbrev pub unseen_text : ℕ → List ℕ
-unseen_text 1 = codes "imports, names and types are looked at when these are mended\n"
-unseen_text 2 = codes "names and types are looked at when these are mended\n"
-unseen_text 3 = codes "types are looked at when these are mended\n"
-unseen_text pass = []
+unseen_text pass = if pass == 1 then codes "imports, names and types are looked at when these are mended\n"
+    else (if pass == 2 then codes "names and types are looked at when these are mended\n"
+    else (if pass == 3 then codes "types are looked at when these are mended\n" else []))
 
 abbrev pub unseen_behind : List Fault → List ℕ
 unseen_behind [] = []

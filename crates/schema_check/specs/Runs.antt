@@ -40,17 +40,18 @@ IsFound options form limits places texts judged report =
     (sources : List Source) × AreSourcesOf texts sources × AreFindings options form limits places sources judged report
 
 -- the report was written whole; or memory was short, and nothing was; or a call of the writer failed
-abbrev pub IsCheckRun : CustomOptions → Form → Limits → Places → List NamedText → Writes → Writes → Result Verdict Failure
-    → Type 0
+abbrev pub IsCheckRun : CustomOptions → Form → Limits → Places → List NamedText → Writes → Writes
+    → Result Verdict Failure → Type 0
 IsCheckRun options form limits places texts old new (Ok judged) =
     (report : List ℕ) × IsFound options form limits places texts judged report × IsWritten old new report
 IsCheckRun options form limits places texts old new (Err failure.NoMemory) = new ≡ old
-IsCheckRun options form limits places texts old new (Err (failure.Device device.Output error)) = (judged : Verdict) × (report : List ℕ)
-    × IsFound options form limits places texts judged report × (written : ℕ) × IsWrittenInPart old new report written
+IsCheckRun options form limits places texts old new (Err (failure.Device device.Output error)) =
+    (judged : Verdict) × (report : List ℕ) × IsFound options form limits places texts judged report
+    × (written : ℕ) × IsWrittenInPart old new report written
 IsCheckRun options form limits places texts old new (Err other) = ⊥
 
--- `check`: the folder could not be read, or memory was short, and nothing was written; or its texts were checked, some of
--- which may lie elsewhere than in the root
+-- `check`: the folder could not be read, or memory was short, and nothing was written; or its texts were checked, some
+-- of which may lie elsewhere than in the root
 abbrev pub IsFolderCheck : KnownSources → Form → List ℕ → Writes → Writes → Result Verdict Failure → Type 0
 IsFolderCheck known form root old new done =
     (limits : Limits) × AreStandard limits

@@ -7,7 +7,7 @@ ghost use Rattle.proto_base.specs.declared.limits.Limits.{Limits};
 ghost use Rattle.proto_compile.specs.declared.source.Source.{Source};
 ghost use Rattle.schema_check.specs.Added.{AddsBlock, AddsMore};
 ghost use Rattle.schema_check.specs.Open.{IsOpen, IsPageOf};
-ghost use Rattle.schema_check.specs.Reports.{IsHeadOf, IsListText, IsPlaceOf, gcc_text, github_text, json_row, place_text, slash_behind};
+ghost use Rattle.schema_check.specs.Reports.{IsHeadOf, IsListText, IsPlaceOf, gcc_text, github_text, json_fault, json_place, json_row, place_line, place_text, slash_behind};
 ghost use Rattle.schema_failure.specs.Lines.{shown_name};
 ghost use Rattle.schema_compile.specs.Placed.{source_named};
 ghost use Rattle.schema_sources.specs.Places.{folder_in};
@@ -42,6 +42,24 @@ struct Path<'a> {
     file: &'a str,
 }
 
+/// The line of a fault in a file.
+fn place_line(
+    alloc: Global,
+    path: Path<'_>,
+    kind: Kind,
+    excerpt: &Excerpt,
+) -> Result<String, AllocError>
+    ensures { IfOk result (λ text. string_bytes text ≡ place_line (shown_name path.entry.folder.now)
+        (slash_behind path.entry.folder.now) (shown_name path.entry.file.now) kind excerpt.now) }
+{
+    let slash = slash_behind(path.folder);
+    let root = Shown(path.folder);
+    let file = Shown(path.file);
+    let line = excerpt.number;
+    let column = excerpt.column;
+    format!(in alloc; "{root}{slash}{file}:{line}:{column}: {kind}\n")
+}
+
 /// The line of a fault in a file, what it is about, and the rows of its text.
 fn place_text(
     alloc: Global,
@@ -50,15 +68,11 @@ fn place_text(
     about: &str,
     excerpt: &Excerpt,
 ) -> Result<String, AllocError>
-    ensures { IfOk result (λ text. string_bytes text ≡ place_text (shown_name path.folder.now)
-        (slash_behind path.folder.now) (shown_name path.file.now) kind about.now excerpt.now) }
+    ensures { IfOk result (λ text. string_bytes text ≡ place_text (shown_name path.entry.folder.now)
+        (slash_behind path.entry.folder.now) (shown_name path.entry.file.now) kind about.now excerpt.now) }
 {
-    let slash = slash_behind(path.folder);
-    let root = Shown(path.folder);
-    let file = Shown(path.file);
-    let line = excerpt.number;
-    let column = excerpt.column;
-    format!(in alloc; "{root}{slash}{file}:{line}:{column}: {kind}\n{about}{excerpt}\n")
+    let line = place_line(alloc, path, kind, excerpt)?;
+    format!(in alloc; "{line}{about}{excerpt}\n")
 }
 
 /// A fault in a file as compilers write it.
@@ -70,8 +84,8 @@ fn gcc_text(
     message: &str,
     kind: Kind,
 ) -> Result<String, AllocError>
-    ensures { IfOk result (λ text. string_bytes text ≡ gcc_text (shown_name path.folder.now)
-        (slash_behind path.folder.now) (shown_name path.file.now) line column message.now kind) }
+    ensures { IfOk result (λ text. string_bytes text ≡ gcc_text (shown_name path.entry.folder.now)
+        (slash_behind path.entry.folder.now) (shown_name path.entry.file.now) line column message.now kind) }
 {
     let slash = slash_behind(path.folder);
     let root = Shown(path.folder);
@@ -88,8 +102,8 @@ fn github_text(
     message: &str,
     kind: Kind,
 ) -> Result<String, AllocError>
-    ensures { IfOk result (λ text. string_bytes text ≡ github_text path.folder.now
-        (slash_behind path.folder.now) path.file.now line column message.now kind) }
+    ensures { IfOk result (λ text. string_bytes text ≡ github_text path.entry.folder.now
+        (slash_behind path.entry.folder.now) path.entry.file.now line column message.now kind) }
 {
     let slash = slash_behind(path.folder);
     let root = CommandProperty(path.folder);
@@ -98,6 +112,34 @@ fn github_text(
     format!(in alloc;
         "::error file={root}{slash}{file},line={line},col={column},title={kind}::{message}\n"
     )
+}
+
+/// The members of a JSON object that say where a fault stands.
+fn json_place(alloc: Global, path: Path<'_>, line: u32, column: u32) -> Result<String, AllocError>
+    ensures { IfOk result (λ text. string_bytes text ≡ json_place path.entry.folder.now
+        (slash_behind path.entry.folder.now) path.entry.file.now line column) }
+{
+    let slash = slash_behind(path.folder);
+    let root = JsonText(path.folder);
+    let file = JsonText(path.file);
+    let below = JsonText(path.file);
+    format!(in alloc;
+        "\"file\":\"{file}\",\"path\":\"{root}{slash}{below}\",\"line\":{line},\"column\":{column}"
+    )
+}
+
+/// The members of a JSON object that say what a fault is.
+fn json_fault(alloc: Global, fault: &Fault) -> Result<String, AllocError>
+    ensures { IfOk result (λ text. string_bytes text ≡ json_fault fault.now) }
+{
+    let Fault {
+        pass,
+        place,
+        kind,
+        ..
+    } = fault;
+    let number = kind.number();
+    format!(in alloc; "\"place\":{place},\"pass\":{pass},\"kind\":\"{kind}\",\"number\":{number}")
 }
 
 /// A fault in a file as a JSON object.
@@ -110,24 +152,13 @@ fn json_row(
     fault: &Fault,
     more: &str,
 ) -> Result<String, AllocError>
-    ensures { IfOk result (λ text. string_bytes text ≡ json_row path.folder.now
-        (slash_behind path.folder.now) path.file.now line column message.now fault.now more.now) }
+    ensures { IfOk result (λ text. string_bytes text ≡ json_row path.entry.folder.now
+        (slash_behind path.entry.folder.now) path.entry.file.now line column message.now fault.now more.now) }
 {
-    let slash = slash_behind(path.folder);
-    let root = JsonText(path.folder);
-    let file = JsonText(path.file);
-    let below = JsonText(path.file);
+    let place = json_place(alloc, path, line, column)?;
+    let told = json_fault(alloc, fault)?;
     let message = JsonText(message);
-    let Fault {
-        pass,
-        place,
-        kind,
-        ..
-    } = fault;
-    let number = kind.number();
-    format!(in alloc;
-        "{{\"file\":\"{file}\",\"path\":\"{root}{slash}{below}\",\"line\":{line},\"column\":{column},\"place\":{place},\"pass\":{pass},\"kind\":\"{kind}\",\"number\":{number},\"message\":\"{message}\"{more}}}\n"
-    )
+    format!(in alloc; "{{{place},{told},\"message\":\"{message}\"{more}}}\n")
 }
 
 /// What is said of a fault in a file, of whose text this is the page: its line and, for people, the rows of the text around the

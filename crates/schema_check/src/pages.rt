@@ -108,7 +108,7 @@ pub(crate) fn file_of<'p, 'f, 's>(
     limits: &Limits,
 ) -> Result<OpenFile<'p, 'f, 's>, AllocError>
     ensures { (sources : List Source) → FindsSources sources named.now
-        → IsOpen form limits.now places.now sources before.name.now before
+        → IsOpen form limits.now places.now sources before.entry.name.now before.entry
         → IfOk result (IsOpen form limits.now places.now sources (string_bytes fault.now.file)) }
 {
     if before.name == fault.file.as_str() {

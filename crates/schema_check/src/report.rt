@@ -3,7 +3,7 @@
 ghost use Rattle.std.specs.Prelude.{◌≡◌, ◌-◌, ◌<◌, ◌≤◌, ◌^◌, IfOk, IfSome, List, OnOk, length, string_bytes};
 ghost use Rattle.proto_base.specs.declared.limits.Limits.{Limits};
 ghost use Rattle.proto_compile.specs.declared.source.Source.{Source};
-ghost use Rattle.schema_check.specs.Added.{AddsBlock};
+ghost use Rattle.schema_check.specs.Added.{AddsBlock, AddsBlocks};
 ghost use Rattle.schema_check.specs.Open.{IsOpen};
 ghost use Rattle.schema_check.specs.Reports.{IsReport, empty_text, end_of, faulty_text, plural, sound_text, summary_of, unseen_behind, unseen_text};
 ghost use Rattle.schema_check.specs.Told.{ArePlaced};
@@ -134,6 +134,46 @@ fn put_said<'s>(
     put_block(alloc, report, form, places, file, fault, &message, is_first)
 }
 
+/// Puts what is said of each fault, of which there are words in a list of as many, where anything is known. A file is opened once for all
+/// of its faults.
+fn put_blocks(
+    alloc: Global,
+    report: &mut String,
+    form: Form,
+    places: &Places,
+    sources: &[Source],
+    faults: &[Fault],
+    words: &[Option<Words<'_>>],
+    limits: &Limits,
+) -> Result<(), AllocError>
+    requires placed { ArePlaced sources.now faults.now }
+    requires words { length words.now ≡ length faults.now }
+    ensures { OnOk result (AddsBlocks form limits.now places.now sources.now faults.now (string_bytes report.old)
+        (string_bytes report.new)) }
+{
+    let named = by_name(alloc, sources)?;
+    let mut others = HashMap::new(alloc);
+    let mut file = open_file(alloc, form, places, &named, "", limits)?;
+    let mut told = BTreeSet::new(alloc);
+    for (at, fault) in faults.iter().enumerate() {
+        file = file_of(alloc, form, places, &named, file, fault, limits)?;
+        let is_first = told.insert(fault.kind)?;
+        put_said(
+            alloc,
+            report,
+            form,
+            places,
+            &named,
+            &mut others,
+            &file,
+            fault,
+            &words[at],
+            is_first,
+        )?;
+    }
+    Ok(())
+}
+
 /// What is said of the faults of sources that lie so, of each of which there are words in a list of as many, where anything is known: in
 /// each form its line; for people also the row of its text with carets and, where it is the first of its kind, what this means and
 /// its cure; and at last how many there are, and what was not looked at.
@@ -151,27 +191,17 @@ pub fn report_of(
     ensures { IfOk result (λ report. IsReport form limits.now places.now sources.now faults.now
         (string_bytes report)) }
 {
-    let named = by_name(alloc, sources)?;
-    let mut others = HashMap::new(alloc);
-    let mut file = open_file(alloc, form, places, &named, "", limits)?;
     let mut report = String::new(alloc);
-    let mut told = BTreeSet::new(alloc);
-    for (at, fault) in faults.iter().enumerate() {
-        file = file_of(alloc, form, places, &named, file, fault, limits)?;
-        let is_first = told.insert(fault.kind)?;
-        put_said(
-            alloc,
-            &mut report,
-            form,
-            places,
-            &named,
-            &mut others,
-            &file,
-            fault,
-            &words[at],
-            is_first,
-        )?;
-    }
+    put_blocks(
+        alloc,
+        &mut report,
+        form,
+        places,
+        sources,
+        faults,
+        words,
+        limits,
+    )?;
     let end = end_of(alloc, form, places.root, faults, sources.len())?;
     report.push_str(end.as_str())?;
     Ok(report)

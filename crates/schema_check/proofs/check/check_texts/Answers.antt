@@ -11,7 +11,8 @@ returns-in_err-write_bytes g c =
     let options = (g.F.SourceFolder.sources c.args.folder.now).custom_options in
     let judged = c.in_ok-found.found.verdict in
     let P : List Source → Type 0 = λ sources. AreSourcesOf c.args.texts.now sources in
-    let Q : List ℕ → Type 0 = λ report. IsFound options c.args.form c.args.limits.now c.args.places.now c.args.texts.now judged report in
+    let Q : List ℕ → Type 0 = λ report.
+    IsFound options c.args.form c.args.limits.now c.args.places.now c.args.texts.now judged report in
     unwritten options c.args.form c.args.limits.now c.args.places.now c.args.texts.now (writes c.args.output.now)
     (writes c.write_bytes.new.writer)
     judged c.as_bytes.result.now c.in_err-write_bytes.field-0.0 c.from_residual-in_err-write_bytes.result
@@ -25,7 +26,8 @@ returns g c =
     let options = (g.F.SourceFolder.sources c.args.folder.now).custom_options in
     let judged = c.in_ok-found.found.verdict in
     let P : List Source → Type 0 = λ sources. AreSourcesOf c.args.texts.now sources in
-    let Q : List ℕ → Type 0 = λ report. IsFound options c.args.form c.args.limits.now c.args.places.now c.args.texts.now judged report in (
+    let Q : List ℕ → Type 0 = λ report.
+    IsFound options c.args.form c.args.limits.now c.args.places.now c.args.texts.now judged report in (
       c.as_bytes.result.now,
       subst Q (sym c.as_bytes.ensures.value)
           (c.deref.result.now, subst P (sym c.deref.ensures.value) c.in_ok-sources.ensures, c.in_ok-found.ensures),
