@@ -357,8 +357,9 @@ where
 {
     match asked {
         Ok(asked) => {
-            let log = log_of(asked.verbosity, faults);
+            let journal = journal_of(asked.verbosity, faults);
             let done = perform(rt, &asked.task, input, output, journal);
+            let done = with_reason(done, input, output);
             let status = finish(&done, faults);
             tell_detail(&done, asked, faults);
             status
