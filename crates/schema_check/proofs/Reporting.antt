@@ -1,25 +1,18 @@
 -- One block of a report after another.
-use Rattle.std.proofs.Common.{◌≡◌, ◌∙◌, sym, refl, ap, subst, ℕ, ◌+◌, ◌<◌, List, [], ◌∷◌, ◌++◌, length, take, get_or, Result, Ok, Err, IfOk, string_bytes, append-nil, append_assoc}
+use Rattle.std.proofs.Common.{◌≡◌, ◌∙◌, sym, ap, subst, ℕ, ◌+◌, ◌<◌, List, [], ◌∷◌, ◌++◌, length, take, get_or, string_bytes, append-nil, append_assoc}
 use Rattle.std.proofs.lemmas.List.{take_more}
 use Rattle.std.proofs.lemmas.List.Folds.{concat-append}
 use Rattle.std.proofs.lemmas.Slice.Zip.{all_zipped_more}
 use Rattle.std.specs.List.{AllZip, concat}
-use Rattle.fault_report.specs.Excerpts.{IsExcerpt}
-use Rattle.fault_report.specs.declared.excerpt.Excerpt.{Excerpt}
 use Rattle.fault_report.specs.declared.form.Form.{Form}
 use Rattle.proto_base.specs.declared.fault.Fault.{Fault}
-use Rattle.proto_base.specs.Limits.{limit_of}
-use Rattle.proto_base.specs.declared.limits.Limit.TheVariants.{FileBytes}
 use Rattle.proto_base.specs.declared.limits.Limits.{Limits}
-use Rattle.proto_compile.specs.Sources.{text_of}
 use Rattle.proto_compile.specs.declared.source.Source.{Source}
 use Rattle.schema_check.specs.Added.{AddsBlock, AddsBlocks}
 use Rattle.schema_check.specs.Open.{IsOpen}
 use Rattle.schema_check.specs.declared.pages.OpenFile.{OpenFile}
-use Rattle.schema_check.specs.Reports.{IsBlock, IsPlaceOf, place_text, slash_behind}
+use Rattle.schema_check.specs.Reports.{IsBlock}
 use Rattle.schema_check.specs.Told.{ArePlaced, LiesWithin}
-use Rattle.schema_failure.specs.Lines.{shown_name}
-use Rattle.schema_sources.specs.Places.{folder_in}
 use Rattle.schema_sources.specs.declared.places.Places.{Places}
 
 block_more : (form : Form) (limits : Limits) (places : Places) (sources : List Source) (faults : List Fault) (k : ℕ)
