@@ -14,9 +14,12 @@ python3 tests/later_faults.py "$seed" "$count" "$folder/made" || exit 2
 for wanted in "$folder"/made/*.wanted; do
     root=${wanted%.wanted}
     "$program" check --format gcc --root "$root" >"$folder/report" 2>"$folder/faults"
-    [ ! -s "$folder/faults" ] || fail "$root: $(<"$folder/faults")"
+    got=$?
+    [ -s "$wanted" ] && status=1 || status=0
+    [ "$got" = "$status" ] && [ ! -s "$folder/faults" ] || fail "$root: status $got, $(<"$folder/faults")"
     sed -E -e "s|^$root/||" -e 's/^([^:]*:[0-9]+:[0-9]+): error: .* \[(.*)\]$/\1: \2/' "$folder/report" >"$folder/got"
-    same "what is told of folder ${root##*/} of seed $seed" "$wanted" "$folder/got"
+    diff "$wanted" "$folder/got" >"$folder/differ" ||
+        fail "what is told of folder ${root##*/} of seed $seed: $(cut -c 1-200 "$folder/differ")"
     "$program" compile --root "$root" >/dev/null 2>"$folder/first"
     [ "$(<"$folder/first")" = "$(head -n 1 "$wanted")" ] || fail "$root: compile tells $(<"$folder/first")"
 done
