@@ -91,7 +91,6 @@ device input "$folder" "$folder/output" describe a.proto
 device output "$point" /dev/full describe a.proto
 device output "$point" /dev/full --help
 device output "$point" /dev/full compile --root "$folder/sources"
-device output "$point" /dev/full check --root "$folder/sources"
 device output "$point" /dev/full explain
 device folder "$point" "$folder/output" compile --root "$folder/none"
 device folder "$point" "$folder/output" compile --root "$folder/sources" none.proto

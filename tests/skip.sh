@@ -175,14 +175,15 @@ skips 'a wrong escape and a wrong number in what is skipped' 'option (x) = "\q" 
 
 # ---- check shows a line as it is written, of a source below the root and of one that is imported
 
-# shows TITLE FILE LINE COLUMN KIND: the first lines of the report on a.proto with its imports, and the line as it stands in the file.
+# shows TITLE FILE LINE COLUMN KIND: the first line of the report on a.proto with its imports and, behind what is known of the fault, the
+# line as it stands in the file.
 shows() {
     local wanted
     rows=$((rows + 1))
     "$program" check --root root --include options --skip-custom-options a.proto >got.out 2>err
     got=$?
     wanted="$2:$3:$4: $5"$'\n'"  $3 | $(sed -n "$3p" "$2")"
-    [ "$got" = 1 ] && [ "$(head -n 2 got.out)" = "$wanted" ] || fail "$1: status $got, $(head -n 2 got.out)"
+    [ "$got" = 1 ] && [ "$(sed -n '1p;3p' got.out)" = "$wanted" ] || fail "$1: status $got, $(head -n 3 got.out)"
 }
 with 'import "none.proto"; option (x) = { y: "z" }; message A { B b = 1 [(x) = 1]; }'
 shows 'a fault behind what is skipped' root/a.proto 2 59 TypeNotFound
