@@ -163,18 +163,6 @@ same 'words of the help and of the completion for fish' "$folder/words" "$folder
 ! command -v zsh >/dev/null || zsh -n share/zsh/site-functions/_schema_server || fail 'zsh does not read its completion'
 ! command -v fish >/dev/null || fish -n share/fish/vendor_completions.d/schema_server.fish || fail 'fish does not read its completion'
 
-# The completions for zsh and fish have the same commands and options, and are read by these shells where they are installed.
-cat "$folder/commands" "$folder/options" | sed 's/^--*//' | sort -u >"$folder/words"
-grep -oE "(^ *'[a-z]+:|\*?--[a-z_-]+|\{-[hV],)" share/zsh/site-functions/_schema_server | tr -d "' :*{," | sed 's/^--*//' | sort -u >"$folder/zsh.words"
-same 'words of the help and of the completion for zsh' "$folder/words" "$folder/zsh.words"
-{
-    sed -n 's/^set -l commands //p' share/fish/vendor_completions.d/schema_server.fish | tr ' ' '\n'
-    grep '^complete ' share/fish/vendor_completions.d/schema_server.fish | grep -oE -e '-[ls] [a-zA-Z_-]+' | cut -d ' ' -f 2
-} | sort -u >"$folder/fish.words"
-same 'words of the help and of the completion for fish' "$folder/words" "$folder/fish.words"
-! command -v zsh >/dev/null || zsh -n share/zsh/site-functions/_schema_server || fail 'zsh does not read its completion'
-! command -v fish >/dev/null || fish -n share/fish/vendor_completions.d/schema_server.fish || fail 'fish does not read its completion'
-
 # Folders and files; a word comes with its quotes, and is split at `=`.
 mkdir -p "$folder/place/orders" "$folder/place/old orders/a b" && touch "$folder/place/orders.pb" "$folder/place/old set.pb" || exit 2
 cd "$folder/place" || exit 2
